@@ -8,7 +8,8 @@ ghost use Rattle.hap_outside.specs.BytesState.{lookup, begin_fails};
 ghost use Rattle.hap_outside.specs.Causes.{HasCause, next_count, next_fails};
 ghost use Rattle.hap_outside.specs.Stores.{Opens, left_once, none_before};
 
-use crate::entries::{Entry, find};
+use crate::copying::copy_front;
+use crate::entries::{Entry, find, rest_at};
 use crate::source::{Failed, Source};
 use std::alloc::{AllocError, Global};
 use std::marker::Model;
@@ -23,21 +24,20 @@ pub struct Bytes {
     calls: u64,
     faults: u64,
     is_begun: bool,
-    place: Option<usize>,
+    open_at: Option<usize>,
     taken: usize,
 }
 
 impl Model for Bytes {
-    ghost use Rattle.std.specs.Prelude.{◌≡◌, ◌<◌, ◌≤◌, false, length, map, None};
-    ghost use Rattle.std.specs.Option.{ForSome};
+    ghost use Rattle.std.specs.Prelude.{◌≡◌, false, map, None};
     ghost use Rattle.hap_outside.specs.BytesState.{BytesState};
-    ghost use Rattle.hap_outside.specs.Entries.{named_bytes, bytes_at, left_at};
+    ghost use Rattle.hap_outside.specs.Entries.{named_bytes, left_at, IsWithin};
 
     ghost Value = { BytesState };
 
-    ghost view = { λ s. record { entries = map named_bytes s.entries.items; listed = s.listed.items; calls = s.calls; faults = s.faults; begun = s.is_begun; rest = left_at s.place s.taken s.entries.items } };
+    ghost view = { λ s. record { entries = map named_bytes s.entries.items; listed = s.listed.items; calls = s.calls; faults = s.faults; begun = s.is_begun; rest = left_at s.open_at s.taken s.entries.items } };
 
-    ghost invariant = { λ s. (ForSome s.place (λ place. (place < length s.entries.items) × (s.taken ≤ length (bytes_at s.entries.items place)))) × (s.is_begun ≡ false → s.place ≡ None) };
+    ghost invariant = { λ s. (IsWithin s.entries.items s.open_at s.taken) × (s.is_begun ≡ false → s.open_at ≡ None) };
 }
 
 impl Bytes {
@@ -52,7 +52,7 @@ impl Bytes {
             calls: 0,
             faults: 0,
             is_begun: false,
-            place: None,
+            open_at: None,
             taken: 0,
         }
     }
@@ -114,7 +114,7 @@ impl Source for Bytes {
         self.is_begun = true;
         if !fails {
             if let Some(place) = find(&self.entries, name) {
-                self.place = Some(place);
+                self.open_at = Some(place);
                 self.taken = 0;
                 return Ok(());
             }
@@ -139,14 +139,9 @@ impl Source for Bytes {
             self.faults = self.faults.saturating_add(1);
             return Err(Failed);
         }
-        let Some(place) = self.place else {
-            return Ok(0);
-        };
-        let bytes = &self.entries[place].bytes;
-        let from = self.taken;
-        let count = buf.len().min(bytes.len() - from);
-        buf[..count].copy_from_slice(&bytes[from..from + count]);
-        self.taken = from + count;
+        let rest = rest_at(&self.entries, self.open_at, self.taken);
+        let count = copy_front(buf, rest);
+        self.taken += count;
         Ok(count)
     }
 }

@@ -1,7 +1,7 @@
 // The entries of a source in memory.
-ghost use Rattle.std.specs.Prelude.{◌≡◌, ◌<◌, ℕ, option_map, IfSome, IfOk, length, map};
+ghost use Rattle.std.specs.Prelude.{◌≡◌, ◌<◌, ◌+◌, ◌^◌, ℕ, option_map, IfSome, IfOk, length, map};
 ghost use Rattle.hap_outside.specs.BytesState.{same_name, lookup};
-ghost use Rattle.hap_outside.specs.Entries.{named_bytes, bytes_at};
+ghost use Rattle.hap_outside.specs.Entries.{named_bytes, bytes_at, left_at, IsWithin};
 
 use std::alloc::{AllocError, Global};
 
@@ -34,6 +34,18 @@ impl Entry {
                 Some(wanted) => has.as_str() == wanted,
             },
         }
+    }
+}
+
+/// What is left of the entry that is open.
+pub fn rest_at(entries: &[Entry], open_at: Option<usize>, taken: usize) -> &[u8]
+    requires { IsWithin entries.now open_at taken }
+    ensures rest { result.now ≡ left_at open_at taken entries.now }
+    ensures fits { taken + length result.now < 2 ^ 64 }
+{
+    match open_at {
+        None => &[],
+        Some(place) => &entries[place].bytes[taken..],
     }
 }
 

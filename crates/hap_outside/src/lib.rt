@@ -7,6 +7,7 @@
 #![tactic(auto)]
 
 mod bytes;
+mod copying;
 mod entries;
 mod host;
 mod paper;
@@ -24,3 +25,6 @@ pub use sink::{Sink, write_all, write_number};
 pub use source::{Failed, ReadAll, Source, read_all};
 pub use steady::Steady;
 pub use steps::Steps;
+
+#[cfg(test)]
+mod tests;

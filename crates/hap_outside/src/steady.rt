@@ -5,6 +5,7 @@ ghost use Rattle.std.specs.Io.KnownBytes.{ReadConsumes};
 ghost use Rattle.std.specs.declared.option.Option.TheVariants.{Some};
 ghost use Rattle.hap_outside.specs.Stores.{left_once, none_before};
 
+use crate::copying::copy_front;
 use crate::source::{Failed, Source};
 use std::alloc::{AllocError, Global};
 use std::marker::Model;
@@ -67,9 +68,7 @@ impl Source for Steady {
         ensures bytes { IfOk result (λ n. buf.new ≡ take n self.old.rest ++ drop n buf.old) }
         ensures after { IfOk result (λ n. self.new ≡ record self.old { rest = drop n self.old.rest }) }
     {
-        let count = buf.len().min(self.bytes.len() - self.taken);
-        let from = self.taken;
-        buf[..count].copy_from_slice(&self.bytes[from..from + count]);
+        let count = copy_front(buf, &self.bytes[self.taken..]);
         self.taken += count;
         Ok(count)
     }
