@@ -98,7 +98,10 @@ impl Sink for Paper {
 pub struct Tally;
 
 impl Tally {
-    pub fn new() -> Tally {
+    /// A sink that took nothing.
+    pub fn new() -> Tally
+        ensures { result ≡ record {} }
+    {
         Tally
     }
 }
