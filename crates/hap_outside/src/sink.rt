@@ -34,7 +34,8 @@ pub fn write_all<K: Sink>(sink: &mut K, piece: &[u8]) -> Result<(), Failed>
 {
     let mut done = 0;
     'turns: while done < piece.len() {
-        done += sink.write(&piece[done..])?;
+        let count = sink.write(&piece[done..])?;
+        done += count;
     }
     Ok(())
 }
