@@ -1,11 +1,14 @@
 -- From what was read to how a run ends.
-use Rattle.std.proofs.Common.{◌≡◌, ◌≢◌, ℕ, ◌≤◌, ◌<◌, ◌⊎◌, Bool, true, false, List, [], length, take, None, Some, IfSome, refl, sym, ap, ◌∙◌, subst, inl, inr, arith}
+use Rattle.std.proofs.Common.{◌≡◌, ◌≢◌, ℕ, ◌≤◌, ◌<◌, ◌⊎◌, Bool, true, false, List, [], length, take, None, Some, Result, Ok, Err, refl, sym, ap, ◌∙◌, subst, inl, inr, arith}
 use Rattle.std.specs.Prelude.{IsSomeAnd, is_none, nat_lt, if◌then◌else◌}
 use Rattle.std.specs.Option.{option_or}
 use Rattle.std.specs.declared.option.Option.{Option}
 use Rattle.std.specs.Io.KnownBytes.{Appends}
 use Rattle.std.proofs.lemmas.Bool.{ltb-true}
+use Rattle.std.proofs.lemmas.List.{take_all}
+use Rattle.hap_outside.specs.Causes.{Rose, HasCause}
 use Rattle.hap_outside.specs.Stores.{Store, bytes_under}
+use Rattle.hap_outside.specs.Writes.{Writes}
 use Rattle.hap_cli.specs.declared.command.Command.{Command}
 use Rattle.hap_cli.specs.declared.command.Command.TheVariants.{Cells}
 use Rattle.hap_cli.specs.declared.outcome.Refusal.{Refusal}
@@ -16,7 +19,7 @@ use Rattle.hap_cli.specs.Input.{input_name, input_limit, OnInput}
 use Rattle.hap_cli.specs.Points.{points_of}
 use Rattle.hap_cli.specs.Refusals.{refusal, length_refusal, text_refusal, refusal_status}
 use Rattle.hap_cli.specs.Answers.{cells_text, IsAnswer}
-use Rattle.hap_cli.specs.Outcomes.{status_of, status_for, Answers, IsEnd}
+use Rattle.hap_cli.specs.Outcomes.{Answers, Tells}
 
 -- what follows of the input of the command
 pub on_input : (command : Command) (store : Option Store) (P Q : List ℕ → Type 0) → ((bytes : List ℕ) → P bytes → Q bytes) → OnInput command store P → OnInput command store Q
@@ -44,3 +47,11 @@ pub wrote_front : (command : Command) (store : Option Store) (old new : Option (
 wrote_front Cells store old new items n h short p w =
     on_input Cells store (λ told. items ≡ told) _ (λ bytes e.
     (cells_text n, (not_refused bytes n (subst (λ b. length b ≤ 16777216) e short) (subst (λ b. points_of b ≡ Some n) e p), (n, subst (λ b. points_of b ≡ Some n) e p, refl)), w.0, w.1, w.2)) h
+
+-- what a call that wrote a line tells, whatever it answered
+pub tells : {T E : Type 0} (old new : Option (List ℕ)) (line : List ℕ) (before now : ℕ) (r : Result T E) → Writes old new line r → HasCause before now r → Tells old new line (Rose before now)
+tells old new line before now (Ok x) w h = record {
+  whole = inr w.whole;
+  part = (length line, omega arith, subst (Appends old new) (sym (take_all (length line) line (omega arith))) w.whole);
+}
+tells old new line before now (Err e) w h = record { whole = inl h.failed; part = w.part }

@@ -11,15 +11,16 @@ pub fn write_cells<K: Sink>(out: &mut K, points: u32) -> Result<(), Failed>
     ensures bytes { Writes (K.written out.old) (K.written out.new) (cells_text points) result }
     ensures cause { HasCause (K.faults out.old) (K.faults out.new) result }
 {
-    let number = Piece::Count(u64::from(points));
+    let vertices = Piece::Count(u64::from(points));
+    let euler = Piece::Count(u64::from(points));
     write_pieces(
         out,
         &[
             Piece::Text(b"cells "),
-            number,
+            vertices,
             Piece::Text(b" 0 0 0\n"),
             Piece::Text(b"euler "),
-            number,
+            euler,
             Piece::Text(b"\n"),
         ],
     )

@@ -13,3 +13,6 @@ mod running;
 
 pub use outcome::{Outcome, Refusal, end_with};
 pub use running::run;
+
+#[cfg(test)]
+mod tests;

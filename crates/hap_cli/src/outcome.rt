@@ -82,6 +82,7 @@ fn write_refusal<E: Sink>(err: &mut E, refusal: Refusal) -> Result<(), Failed>
 fn write_line<E: Sink>(err: &mut E, outcome: Outcome) -> Result<(), Failed>
     ensures bytes { Writes (E.written err.old) (E.written err.new) (line_of outcome) result }
     ensures cause { HasCause (E.faults err.old) (E.faults err.new) result }
+    ensures silent { outcome ≡ Outcome.Done → err.new ≡ err.old }
 {
     match outcome {
         Outcome::Done => Ok(()),
@@ -98,6 +99,7 @@ fn write_line<E: Sink>(err: &mut E, outcome: Outcome) -> Result<(), Failed>
 pub fn end_with<E: Sink>(err: &mut E, outcome: Outcome) -> u8
     ensures status { result ≡ status_of outcome }
     ensures line { Tells (E.written err.old) (E.written err.new) (line_of outcome) (Rose (E.faults err.old) (E.faults err.new)) }
+    ensures silent { outcome ≡ Outcome.Done → err.new ≡ err.old }
 {
     match write_line(err, outcome) {
         Ok(()) => (),

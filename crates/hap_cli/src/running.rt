@@ -81,6 +81,7 @@ pub fn run<S: Source, K: Sink, E: Sink, L: Ledger>(
     // What is left.
     ensures end { result ≡ 0 → IsAtEnd (S.left source.new) }
     ensures nothing { result ≢ 0 → result ≢ 8 → out.new ≡ out.old }
+    ensures silent { result ≡ 0 → err.new ≡ err.old }
     ensures steps { steps.new ≡ steps.old }
 {
     let outcome = match Command::of_words(words) {
