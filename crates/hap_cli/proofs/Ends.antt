@@ -1,5 +1,5 @@
 -- From what was read to how a run ends.
-use Rattle.std.proofs.Common.{◌≡◌, ◌≢◌, ℕ, ◌≤◌, ◌<◌, ◌⊎◌, Bool, true, false, List, [], length, take, None, Some, Result, Ok, Err, refl, sym, ap, ◌∙◌, subst, inl, inr, arith}
+use Rattle.std.proofs.Common.{◌≡◌, ℕ, ◌≤◌, ◌<◌, Bool, true, false, List, length, take, None, Some, Result, Ok, Err, refl, sym, ap, ◌∙◌, subst, inl, inr, arith}
 use Rattle.std.specs.Prelude.{IsSomeAnd, is_none, nat_lt, if◌then◌else◌}
 use Rattle.std.specs.Option.{option_or}
 use Rattle.std.specs.declared.option.Option.{Option}
@@ -7,18 +7,15 @@ use Rattle.std.specs.Io.KnownBytes.{Appends}
 use Rattle.std.proofs.lemmas.Bool.{ltb-true}
 use Rattle.std.proofs.lemmas.List.{take_all}
 use Rattle.hap_outside.specs.Causes.{Rose, HasCause}
-use Rattle.hap_outside.specs.Stores.{Store, bytes_under}
+use Rattle.hap_outside.specs.Stores.{Store}
 use Rattle.hap_outside.specs.Writes.{Writes}
 use Rattle.hap_cli.specs.declared.command.Command.{Command}
 use Rattle.hap_cli.specs.declared.command.Command.TheVariants.{Cells}
-use Rattle.hap_cli.specs.declared.outcome.Refusal.{Refusal}
 use Rattle.hap_cli.specs.declared.outcome.Refusal.TheVariants.{TooLong, Text}
-use Rattle.hap_cli.specs.declared.outcome.Outcome.{Outcome}
-use Rattle.hap_cli.specs.declared.outcome.Outcome.TheVariants.{Done, Usage, Refused, ReadFault, WriteFault, Memory}
 use Rattle.hap_cli.specs.Input.{input_name, input_limit, OnInput}
 use Rattle.hap_cli.specs.Points.{points_of}
-use Rattle.hap_cli.specs.Refusals.{refusal, length_refusal, text_refusal, refusal_status}
-use Rattle.hap_cli.specs.Answers.{cells_text, IsAnswer}
+use Rattle.hap_cli.specs.Refusals.{refusal, text_refusal}
+use Rattle.hap_cli.specs.Answers.{cells_text}
 use Rattle.hap_cli.specs.Outcomes.{Answers, Tells}
 
 -- what follows of the input of the command

@@ -1,5 +1,4 @@
 // The command `cells`.
-ghost use Rattle.std.specs.Prelude.{◌≡◌};
 ghost use Rattle.hap_outside.specs.Causes.{HasCause};
 ghost use Rattle.hap_outside.specs.Writes.{Writes};
 ghost use Rattle.hap_cli.specs.Answers.{cells_text};

@@ -1,5 +1,5 @@
 // The reader of points: a list of one layer whose cells are all vertices.
-ghost use Rattle.std.specs.Prelude.{◌≡◌, ◌≢◌, ◌⊎◌, ◌++◌, ◌↔◌, List, ℕ, IfSome, IsNone, IsTrue, MatchOption, codes};
+ghost use Rattle.std.specs.Prelude.{◌≡◌, ◌≢◌, ◌⊎◌, ◌++◌, ◌↔◌, List, ℕ, IsTrue, MatchOption, codes};
 ghost use Rattle.hap_cli.specs.Points.{points_of};
 
 const MOST_OTHERS: u32 = 59_999;

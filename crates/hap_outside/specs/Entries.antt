@@ -1,5 +1,5 @@
 -- The entries of a source in memory, as it keeps them.
-use Rattle.std.specs.Prelude.{◌≡◌, ◌≤◌, ◌<◌, length, ℕ, zero, suc, List, [], ◌∷◌, drop, map, option_map, string_bytes}
+use Rattle.std.specs.Prelude.{◌≡◌, ◌≤◌, ◌<◌, length, ℕ, zero, suc, List, [], ◌∷◌, drop, option_map, string_bytes}
 use Rattle.std.specs.declared.option.Option.{Option}
 use Rattle.std.specs.declared.option.Option.TheVariants.{Some, None}
 use Rattle.hap_outside.specs.declared.entries.Entry.{Entry}

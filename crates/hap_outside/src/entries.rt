@@ -1,5 +1,5 @@
 // The entries of a source in memory.
-ghost use Rattle.std.specs.Prelude.{◌≡◌, ◌<◌, ◌+◌, ◌^◌, ℕ, option_map, IfSome, IfOk, length, map};
+ghost use Rattle.std.specs.Prelude.{◌≡◌, ◌<◌, ◌+◌, ◌^◌, option_map, IfSome, IfOk, length, map};
 ghost use Rattle.hap_outside.specs.BytesState.{same_name, lookup};
 ghost use Rattle.hap_outside.specs.Entries.{named_bytes, bytes_at, left_at, IsWithin};
 

@@ -1,5 +1,5 @@
 // A text in pieces, which one call writes.
-ghost use Rattle.std.specs.Prelude.{◌≡◌, decimal};
+ghost use Rattle.std.specs.Prelude.{decimal};
 ghost use Rattle.hap_outside.specs.Causes.{HasCause};
 ghost use Rattle.hap_outside.specs.Writes.{Writes};
 ghost use Rattle.hap_outside.specs.Pieces.{text_of, texts_of};

@@ -1,7 +1,5 @@
 // A source in memory that never fails.
-ghost use Rattle.std.specs.Prelude.{◌≡◌, [], ℕ, false, true, IsOk, IfOk, OnOk, OnErr, length, take, drop, ◌++◌, min, option_map};
-ghost use Rattle.std.specs.Io.{ReadsAtMost};
-ghost use Rattle.std.specs.Io.KnownBytes.{ReadConsumes};
+ghost use Rattle.std.specs.Prelude.{◌≡◌, false, true, IsOk, IfOk, length, take, drop, ◌++◌, min};
 ghost use Rattle.std.specs.declared.option.Option.TheVariants.{Some};
 ghost use Rattle.hap_outside.specs.Stores.{left_once, none_before};
 
