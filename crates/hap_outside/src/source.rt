@@ -75,8 +75,10 @@ pub fn read_all<S: Source>(alloc: Global, source: &mut S, limit: usize) -> Resul
     ensures end { OnOk result (IsAtEnd (S.left source.new)) }
     ensures within { IfOk result (λ bytes. length bytes.items ≤ limit) }
 
-    // One byte more than the limit was read.
+    // One byte more than the limit was read, and no more than the limit before a fault.
     ensures too_long { IsErrOf result ReadAll.TooLong → (bytes : List ℕ) × Consumes (S.left source.old) (S.left source.new) bytes × (length bytes ≡ limit + 1) }
+
+    ensures stopped { IsErrOf result ReadAll.Fault → (bytes : List ℕ) × Consumes (S.left source.old) (S.left source.new) bytes × (length bytes ≤ limit) }
 
     // A fault comes only where the count rose, and always where it is greater after than before.
     ensures fault { IsErrOf result ReadAll.Fault → Rose (S.faults source.old) (S.faults source.new) }
