@@ -45,7 +45,8 @@ Answers command bytes text = (refusal command bytes ≡ None) × IsAnswer comman
 
 -- why a command that the words give ends so, and what was then appended to the output: read and write say
 -- that the count of the source, and that of the output, rose
-abbrev pub IsEnd : Command → Option Store → (read write : Type 0) → (old new : Option (List ℕ)) → Outcome → Type 0
+abbrev pub IsEnd : Command → Option Store → (read write : Type 0) → (old new : Option (List ℕ))
+    → Outcome → Type 0
 IsEnd command store read write old new Done =
     OnInput command store (λ bytes. (text : List ℕ) × Answers command bytes text × Appends old new text)
 IsEnd command store read write old new Usage = ⊥
@@ -53,5 +54,6 @@ IsEnd command store read write old new (Refused cause) =
     OnInput command store (λ bytes. refusal command bytes ≡ Some cause) × Keeps old new
 IsEnd command store read write old new ReadFault = read × Keeps old new
 IsEnd command store read write old new WriteFault =
-    write × OnInput command store (λ bytes. (text : List ℕ) × Answers command bytes text × (n : ℕ) × (n ≤ length text) × Appends old new (take n text))
+    write × OnInput command store (λ bytes. (text : List ℕ) × Answers command bytes text
+    × (n : ℕ) × (n ≤ length text) × Appends old new (take n text))
 IsEnd command store read write old new Memory = Keeps old new

@@ -22,9 +22,11 @@ impl Command {
     /// All bytes of the input.
     pub fn read_input<S: Source>(self, alloc: Global, source: &mut S) -> Result<Vec<u8>, ReadAll>
         requires { S.begun source.old ≡ false }
-        ensures bytes { IfOk result (λ bytes. (length bytes.items ≤ input_limit self) × OnInput self (S.store source.old) (λ told. bytes.items ≡ told)) }
+        ensures bytes { IfOk result (λ bytes. (length bytes.items ≤ input_limit self)
+            × OnInput self (S.store source.old) (λ told. bytes.items ≡ told)) }
         ensures end { OnOk result (IsAtEnd (S.left source.new)) }
-        ensures too_long { IsErrOf result ReadAll.TooLong → OnInput self (S.store source.old) (λ told. input_limit self < length told) }
+        ensures too_long { IsErrOf result ReadAll.TooLong
+            → OnInput self (S.store source.old) (λ told. input_limit self < length told) }
         ensures fault { IsErrOf result ReadAll.Fault → Rose (S.faults source.old) (S.faults source.new) }
         ensures told { S.faults source.old < S.faults source.new → IsErrOf result ReadAll.Fault }
     {

@@ -56,7 +56,8 @@ fn status(outcome: Outcome) -> u8
 }
 
 fn write_limit<E: Sink>(err: &mut E, limit: u64) -> Result<(), Failed>
-    ensures bytes { Writes (E.written err.old) (E.written err.new) (codes "hap: limit: input over " ++ (decimal limit ++ codes " bytes\n")) result }
+    ensures bytes { Writes (E.written err.old) (E.written err.new)
+        (codes "hap: limit: input over " ++ (decimal limit ++ codes " bytes\n")) result }
     ensures cause { HasCause (E.faults err.old) (E.faults err.new) result }
 {
     write_pieces(
@@ -98,7 +99,8 @@ fn write_line<E: Sink>(err: &mut E, outcome: Outcome) -> Result<(), Failed>
 /// nothing but the line.
 pub fn end_with<E: Sink>(err: &mut E, outcome: Outcome) -> u8
     ensures status { result ≡ status_of outcome }
-    ensures line { Tells (E.written err.old) (E.written err.new) (line_of outcome) (Rose (E.faults err.old) (E.faults err.new)) }
+    ensures line { Tells (E.written err.old) (E.written err.new) (line_of outcome)
+        (Rose (E.faults err.old) (E.faults err.new)) }
     ensures silent { outcome ≡ Outcome.Done → err.new ≡ err.old }
 {
     match write_line(err, outcome) {

@@ -25,7 +25,9 @@ fn perform<S: Source, K: Sink>(
     out: &mut K,
 ) -> Outcome
     requires { S.begun source.old ≡ false }
-    ensures cause { IsEnd command (S.store source.old) (Rose (S.faults source.old) (S.faults source.new)) (Rose (K.faults out.old) (K.faults out.new)) (K.written out.old) (K.written out.new) result }
+    ensures cause { IsEnd command (S.store source.old)
+        (Rose (S.faults source.old) (S.faults source.new)) (Rose (K.faults out.old) (K.faults out.new))
+        (K.written out.old) (K.written out.new) result }
     ensures read_told { S.faults source.old < S.faults source.new → result ≡ Outcome.ReadFault }
     ensures write_told { K.faults out.old < K.faults out.new → result ≡ Outcome.WriteFault }
     ensures end { result ≡ Outcome.Done → IsAtEnd (S.left source.new) }
@@ -59,17 +61,23 @@ pub fn run<S: Source, K: Sink, E: Sink, L: Ledger>(
 
     // How the run ended, its status and its line on err, with the cause and with what is on the output.
     ensures ended { (outcome : AnOutcome) × (result ≡ status_of outcome)
-        × Tells (E.written err.old) (E.written err.new) (line_of outcome) (Rose (E.faults err.old) (E.faults err.new))
+        × Tells (E.written err.old) (E.written err.new) (line_of outcome)
+        (Rose (E.faults err.old) (E.faults err.new))
         × MatchOption (command_of (map string_bytes words.now)) (outcome ≡ Outcome.Usage) (λ command.
-        IsEnd command (S.store source.old) (Rose (S.faults source.old) (S.faults source.new)) (Rose (K.faults out.old) (K.faults out.new)) (K.written out.old) (K.written out.new) outcome) }
+        IsEnd command (S.store source.old)
+        (Rose (S.faults source.old) (S.faults source.new))
+        (Rose (K.faults out.old) (K.faults out.new))
+        (K.written out.old) (K.written out.new) outcome) }
 
     // Where the words are refused, the source is untouched.
     ensures usage { IsNone (command_of (map string_bytes words.now)) → result ≡ 2 }
     ensures untouched { IsNone (command_of (map string_bytes words.now)) → source.new ≡ source.old }
 
     // Where nothing failed outside, the status is that of the refusal, or 0, or memory was wanting.
-    ensures exact { IfSome (command_of (map string_bytes words.now)) (λ command. IfSome (bytes_under (S.store source.old) (input_name command)) (λ bytes.
-        (Rose (S.faults source.old) (S.faults source.new) → ⊥) → (Rose (K.faults out.old) (K.faults out.new) → ⊥)
+    ensures exact { IfSome (command_of (map string_bytes words.now)) (λ command.
+        IfSome (bytes_under (S.store source.old) (input_name command)) (λ bytes.
+        (Rose (S.faults source.old) (S.faults source.new) → ⊥)
+        → (Rose (K.faults out.old) (K.faults out.new) → ⊥)
         → (result ≡ status_for (refusal command bytes)) ⊎ (result ≡ 9))) }
 
     // Faults come only where the count rose, and always where it is greater after than before.

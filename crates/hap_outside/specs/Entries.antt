@@ -22,4 +22,5 @@ left_at (Some place) taken entries = drop taken (bytes_at entries place)
 -- an entry that is open is one of the entries, and no more of it was taken than it has
 abbrev pub IsWithin : List Entry → Option ℕ → ℕ → Type 0
 IsWithin entries open_at taken =
-    (place : ℕ) → open_at ≡ Some place → (place < length entries) × (taken ≤ length (bytes_at entries place))
+    (place : ℕ) → open_at ≡ Some place
+    → (place < length entries) × (taken ≤ length (bytes_at entries place))

@@ -22,7 +22,11 @@ impl Model for Steady {
 
     ghost Value = { SteadyState };
 
-    ghost view = { λ s. record { bytes = s.bytes.items; begun = s.is_begun; rest = drop s.taken s.bytes.items } };
+    ghost view = { λ s. record {
+      bytes = s.bytes.items;
+      begun = s.is_begun;
+      rest = drop s.taken s.bytes.items;
+    } };
 
     ghost invariant = { λ s. s.taken ≤ length s.bytes.items };
 }
@@ -30,7 +34,11 @@ impl Model for Steady {
 impl Steady {
     /// A source that is not begun, with these bytes under each name.
     pub fn new(alloc: Global, bytes: &[u8]) -> Result<Steady, AllocError>
-        ensures { IfOk result (λ source. source ≡ record { bytes = bytes.now; begun = false; rest = bytes.now }) }
+        ensures { IfOk result (λ source. source ≡ record {
+          bytes = bytes.now;
+          begun = false;
+          rest = bytes.now;
+        }) }
     {
         Ok(Steady {
             bytes: Vec::from_slice(alloc, bytes)?,
