@@ -1,0 +1,6 @@
+pub mod Value
+pub mod Code
+pub mod Nest
+pub mod Falls
+pub mod Tokens
+pub mod Reading
