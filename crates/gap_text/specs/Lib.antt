@@ -4,3 +4,5 @@ pub mod Nest
 pub mod Falls
 pub mod Tokens
 pub mod Reading
+pub mod States
+pub mod Readers

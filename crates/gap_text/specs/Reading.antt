@@ -2,8 +2,10 @@
 use Rattle.std.specs.Prelude.{ℕ, zero, suc, ◌+◌, ◌-◌, List, [], ◌∷◌, ◌++◌, length, nat_lt, nat_le, if◌then◌else◌, Result, Ok, Err}
 use Rattle.gap_text.specs.declared.fault.TextFault.{TextFault}
 use Rattle.gap_text.specs.declared.fault.TextFault.TheVariants.{BadByte, Unclosed, Stray, Stepped, BadRange, NumberTooBig, TooDeep}
+use Rattle.gap_text.specs.declared.state.Shape.{Shape}
+use Rattle.gap_text.specs.declared.state.Shape.TheVariants.{OneNumber, TwoNumbers, Longer}
 use Rattle.gap_text.specs.Value.{Value, number, list, values}
-use Rattle.gap_text.specs.Tokens.{Token, Open, Close, Comma, Dots, Semicolon, Number, Bad, tokens}
+use Rattle.gap_text.specs.Tokens.{Token, Open, Close, Comma, Dots, Semicolon, Number, Bad, tokens, too_big}
 
 -- an open list: its place, and the values that it has so far
 pub record Level : Type 0 where
@@ -87,14 +89,20 @@ abbrev pub after_comma : Phase → List Level → ℕ → ℕ → Result State T
 after_comma AfterItem ls made p = Ok (at AnyValue ls made)
 after_comma phase ls made p = Err (refused phase p)
 
--- the `..` of a range is allowed where the innermost list is one number so far
+-- what a list is so far, where a `..` comes
+abbrev pub shape_of : List Value → Shape
+shape_of (number q a ∷ []) = OneNumber q a
+shape_of (number q a ∷ number r b ∷ []) = TwoNumbers
+shape_of _ = Longer
+
+-- a `..` begins a range where the innermost list, which began here, is one number so far
+abbrev pub range_begun : Shape → ℕ → List Level → ℕ → ℕ → Result State TextFault
+range_begun (OneNumber q a) place ls made p = Ok (at (RangeEnd q a) (level place [] ∷ ls) made)
+range_begun TwoNumbers place ls made p = Err (Stepped p)
+range_begun Longer place ls made p = Err (BadRange p)
+
 abbrev pub after_dots : Phase → List Level → ℕ → ℕ → Result State TextFault
-after_dots AfterItem (l ∷ ls) made p = range_begun l.so_far
-  where
-    range_begun : List Value → Result State TextFault
-    range_begun (number q a ∷ []) = Ok (at (RangeEnd q a) (level l.place [] ∷ ls) made)
-    range_begun (number q a ∷ number r b ∷ []) = Err (Stepped p)
-    range_begun _ = Err (BadRange p)
+after_dots AfterItem (l ∷ ls) made p = range_begun (shape_of l.so_far) l.place ls made p
 after_dots phase ls made p = Err (BadRange p)
 
 abbrev pub after_semicolon : Phase → List Level → ℕ → ℕ → Result State TextFault
@@ -115,7 +123,7 @@ after_number phase ls made p n = Err (refused phase p)
 
 abbrev pub step : State → Token → Result State TextFault
 step s (Bad p) = Err (BadByte p)
-step s (Number p n) = if nat_lt n 4294967296 then after_number s.phase s.open_lists s.made p n else Err (NumberTooBig p)
+step s (Number p n) = if nat_lt n too_big then after_number s.phase s.open_lists s.made p n else Err (NumberTooBig p)
 step s (Dots p) = after_dots s.phase s.open_lists s.made p
 step s (Open p) = after_open s.phase s.open_lists s.made p
 step s (Close p) = after_close s.phase s.open_lists s.made p

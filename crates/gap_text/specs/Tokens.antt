@@ -1,5 +1,5 @@
 -- The tokens of a text, each with the place of its first byte, counted from 0.
-use Rattle.std.specs.Prelude.{ℕ, suc, ◌+◌, ◌-◌, ◌*◌, List, [], ◌∷◌, ◌++◌, Bool, ◌&&◌, ◌==◌, nat_le, if◌then◌else◌}
+use Rattle.std.specs.Prelude.{ℕ, suc, ◌+◌, ◌-◌, ◌*◌, List, [], ◌∷◌, ◌++◌, Bool, ◌&&◌, ◌==◌, nat_le, min, if◌then◌else◌}
 use Rattle.gap_text.specs.declared.byte.Class.{Class}
 use Rattle.gap_text.specs.declared.byte.Class.TheVariants.{LeftBracket, RightBracket, CommaSign, SemicolonSign, Point, Digit, Hash, Blank, LineFeed, Other}
 
@@ -27,7 +27,11 @@ class_of b =
     if b == 13 then Blank else
     if is_digit b then Digit (b - 48) else Other
 
--- what the bytes before a byte have begun, and where
+-- the least number that is too big
+abbrev pub too_big : ℕ
+too_big = 4294967296
+
+-- what the bytes before a byte have begun, and where; digits also have their value, held at `too_big` once it is that or more
 pub data Mode : Type 0 where
   Between Comment : Mode
   Dot : (place : ℕ) → Mode
@@ -55,7 +59,7 @@ mode_after Comment i LineFeed = Between
 mode_after Comment i _ = Comment
 mode_after (Dot p) i Point = Between
 mode_after (Dot p) i c = mode_begun i c
-mode_after (Digits p n) i (Digit d) = Digits p (10 * n + d)
+mode_after (Digits p n) i (Digit d) = Digits p (min (10 * n + d) too_big)
 mode_after (Digits p n) i c = mode_begun i c
 
 -- the tokens that are whole once a byte has come

@@ -8,9 +8,13 @@ ghost use Rattle.gap_text.specs.Reading.{value_of};
 mod byte;
 mod fault;
 mod nest;
+mod reader;
+mod state;
 
+use byte::Class;
 pub use fault::TextFault;
 pub use nest::{Items, Nest};
+use reader::Reader;
 use std::alloc::Global;
 
 /// Reads the one value that a text spells, or answers the first fault of the text.
@@ -26,7 +30,9 @@ pub fn parse(alloc: Global, text: &[u8]) -> Result<Nest, TextFault>
     // Want of memory may be answered to any text.
     ensures fault { IfErr result (λ fault. fault ≢ TextFault.Memory → value_of text.now ≡ Err fault) }
 {
-    let _ = alloc;
-    let _ = text;
-    Err(TextFault::Memory)
+    let mut reader = Reader::new(alloc);
+    for (place, byte) in text.iter().enumerate() {
+        reader = reader.feed(place as u32, Class::of(*byte))?;
+    }
+    reader.into_value(text.len() as u32)
 }

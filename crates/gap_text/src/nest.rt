@@ -1,5 +1,7 @@
-ghost use Rattle.std.specs.Prelude.{◌≡◌, ◌<◌, length, slice_get, Some};
+ghost use Rattle.std.specs.Prelude.{◌≡◌, ◌<◌, length, map, slice_get, Some, IfOk, IfErr};
 
+use crate::fault::TextFault;
+use std::alloc::Global;
 use std::marker::Model;
 
 /// A number or a list, with the place of its first byte in the text, counted from 0.
@@ -43,6 +45,20 @@ impl Model for Items {
 
 impl Items {
     ghost use Rattle.gap_text.specs.Nest.{view};
+    ghost use Rattle.gap_text.specs.declared.fault.TextFault.TheVariants.{Memory};
+
+    /// The list of these items, in a block of just their size.
+    pub(crate) fn from_nests(alloc: Global, mut nests: Vec<Nest>) -> Result<Items, TextFault>
+        ensures list { IfOk result (λ items. items ≡ map view nests.items) }
+        ensures err { IfErr result (λ fault. fault ≡ Memory) }
+    {
+        if nests.len() > u32::MAX as usize {
+            return Err(TextFault::Memory);
+        }
+        let mut exact = Vec::with_capacity(alloc, nests.len())?;
+        exact.append(&mut nests)?;
+        Ok(Items { nests: exact })
+    }
 
     /// The number of items.
     pub fn len(&self) -> u32
