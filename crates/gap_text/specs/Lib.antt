@@ -4,5 +4,6 @@ pub mod Nest
 pub mod Falls
 pub mod Tokens
 pub mod Reading
+pub mod Grammar
 pub mod States
 pub mod Readers
