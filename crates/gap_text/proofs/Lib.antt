@@ -1,6 +1,7 @@
 pub mod Accepted
 pub mod Classes
 pub mod Counted
+pub mod Laws
 pub mod Lexed
 pub mod Run
 pub mod Spelled
