@@ -1,9 +1,9 @@
 -- What the grammar reads, the machine reads: from a value's tokens to the state that they leave.
-use Rattle.std.proofs.Common.{◌≡◌, ℕ, suc, ◌+◌, ◌<◌, ◌≤◌, List, [], ◌∷◌, ◌++◌, length, max, Bool, true, false, nat_lt, nat_le, Result, Ok, Err, refl, sym, ◌∙◌, ap, arith, append_assoc, add_assoc, add-zero}
+use Rattle.std.proofs.Common.{◌≡◌, ℕ, suc, ◌+◌, ◌<◌, ◌≤◌, List, [], ◌∷◌, ◌++◌, length, Result, Ok, Err, refl, ◌∙◌, ap, arith, append_assoc, add_assoc, add-zero}
 use Rattle.std.proofs.lemmas.Bool.Decides.{nat_tests}
 use Rattle.gap_text.specs.declared.fault.TextFault.{TextFault}
 use Rattle.gap_text.specs.Value.{Value, Values, number, list, none, more, items, values, depth, deepest}
-use Rattle.gap_text.specs.Tokens.{Token, Open, Close, Comma, Dots, Semicolon, Number, too_big}
+use Rattle.gap_text.specs.Tokens.{Token, Open, Close, Dots, Number, too_big}
 use Rattle.gap_text.specs.Reading.{State, Level, AnyValue, FirstItem, AfterItem, RangeEnd, RangeClose, at, level, put, span, counted, step, run, read, start, value_at_end}
 use Rattle.gap_text.specs.Grammar.{Reads, ReadsItems, IsText, a_number, an_empty, a_range, a_list, the_last, and_more, plain, ended, Spells}
 
@@ -76,7 +76,7 @@ mutual
 
 pub read-spelled : (ts : List Token) (v : Value) (p : ℕ) → Spells ts v → read start ts p ≡ Ok v
 read-spelled ts v p s = whole s.reads s.few s.shallow
-    where
+  where
     at_end : Result State TextFault → Result Value TextFault
     at_end q = elim q as (λ x. Result Value TextFault) [ Ok last ↦ value_at_end last.phase p | Err f ↦ Err f ]
 

@@ -1,7 +1,7 @@
 -- Bytes by their classes, and back.
-use Rattle.std.proofs.Common.{◌≡◌, ℕ, ◌-◌, ◌⊎◌, inl, inr, Bool, true, false, arith, refl}
+use Rattle.std.proofs.Common.{◌≡◌, ℕ, ◌-◌, ◌⊎◌, Bool, true, false, arith, refl}
 use Rattle.std.proofs.lemmas.Bool.Decides.{nat_tests}
-use Rattle.gap_text.specs.declared.byte.Class.TheVariants.{LeftBracket, RightBracket, CommaSign, SemicolonSign, Point, Digit, Hash, Blank, LineFeed, Other}
+use Rattle.gap_text.specs.declared.byte.Class.TheVariants.{LeftBracket, RightBracket, CommaSign, SemicolonSign, Point, Digit, Hash, Blank, LineFeed}
 use Rattle.gap_text.specs.Tokens.{class_of, is_digit}
 use Rattle.gap_text.specs.Grammar.{is_blank, is_commented}
 
@@ -49,7 +49,7 @@ class_of-no_digit b d e h = grind (arith, nat_tests)
 
 pub no_digit-byte : (b : ℕ) → ((d : ℕ) → class_of b ≡ Digit d → ⊥) → is_digit b ≡ false
 no_digit-byte b h = by_test (is_digit b) refl
-    where
+  where
     by_test : (t : Bool) → is_digit b ≡ t → t ≡ false
     by_test true e = absurd (h (b - 48) (class_of-digit b e))
     by_test false e = refl

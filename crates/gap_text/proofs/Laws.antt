@@ -1,13 +1,13 @@
 -- The laws that join the value of a text with the grammar.
-use Rattle.std.proofs.Common.{◌≡◌, ◌↔◌, ℕ, List, [], ◌∷◌, length, map, Result, Ok, Err, refl, sym, ◌∙◌, ap}
+use Rattle.std.proofs.Common.{◌≡◌, ℕ, List, [], ◌∷◌, length, map, Result, Ok, Err, refl, sym, ◌∙◌, ap}
 use Rattle.gap_text.specs.declared.fault.TextFault.{TextFault}
 use Rattle.gap_text.specs.Value.{Value}
-use Rattle.gap_text.specs.Tokens.{Token, Open, Close, Comma, Dots, Semicolon, Number, Bad, Between, tokens}
-use Rattle.gap_text.specs.Reading.{State, start, run, read, value_at_end, value_of}
-use Rattle.gap_text.specs.Grammar.{Spells, IsValueOf, ValueIsSpelled, FaultIsNoValue}
+use Rattle.gap_text.specs.Tokens.{Token, Open, Close, Comma, Dots, Semicolon, Number, Bad, tokens}
+use Rattle.gap_text.specs.Reading.{State, start, read, value_at_end, value_of}
+use Rattle.gap_text.specs.Grammar.{IsValueOf, ValueIsSpelled, FaultIsNoValue}
 use Rattle.gap_text.proofs.Accepted.{read-spelled}
 use Rattle.gap_text.proofs.Spelled.{taken, spelled-read}
-use Rattle.gap_text.proofs.Lexed.{held, run-held, NoBad, Lexed, lexed, tokens_from-lexed}
+use Rattle.gap_text.proofs.Lexed.{held, run-held, NoBad, lexed, tokens_from-lexed}
 
 -- what has a value has no byte that begins no token
 no_bad : (ts : List Token) (s : State) (p : ℕ) (w : Value) → read s ts p ≡ Ok w → NoBad ts
@@ -42,7 +42,7 @@ both v f r e h = cc
 
 pub fault_is_no_value : FaultIsNoValue
 fault_is_no_value text = (λ (f, e) v s. both v f (value_of text) (value_of-spelled text v s) e, by_result (value_of text) refl)
-    where
+  where
     by_result : (r : Result Value TextFault) → value_of text ≡ r → ((v : Value) → IsValueOf text v → ⊥) → (f : TextFault) × (value_of text ≡ Err f)
     by_result (Ok v) e none = absurd (none v (spelled text v e))
     by_result (Err f) e none = (f, e)

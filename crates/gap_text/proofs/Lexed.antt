@@ -1,13 +1,12 @@
 -- The tokens that the machine makes of bytes are those that the rules give, but that a number which is too big is held at `too_big`.
-use Rattle.std.proofs.Common.{◌≡◌, ℕ, zero, suc, ◌+◌, ◌-◌, ◌*◌, ◌<◌, ◌≤◌, min, List, [], ◌∷◌, ◌++◌, length, map, Bool, true, false, ◌&&◌, ◌⊎◌, inl, inr, Result, Ok, Err, refl, sym, ◌∙◌, ap, subst, arith, add-zero, nat_lt, if◌then◌else◌}
+use Rattle.std.proofs.Common.{◌≡◌, ℕ, zero, suc, ◌+◌, ◌-◌, ◌*◌, ◌<◌, ◌≤◌, min, List, [], ◌∷◌, ◌++◌, length, map, Bool, true, false, ◌&&◌, inl, inr, Result, Ok, Err, refl, sym, ◌∙◌, ap, subst, arith, nat_lt}
 use Rattle.std.specs.List.{list_all}
 use Rattle.std.proofs.lemmas.Bool.Decides.{nat_tests}
 use Rattle.gap_text.specs.declared.fault.TextFault.{TextFault}
 use Rattle.gap_text.specs.declared.byte.Class.{Class}
 use Rattle.gap_text.specs.declared.byte.Class.TheVariants.{LeftBracket, RightBracket, CommaSign, SemicolonSign, Point, Digit, Hash, Blank, LineFeed, Other}
-use Rattle.gap_text.specs.Value.{Value}
 use Rattle.gap_text.specs.Tokens.{Token, Open, Close, Comma, Dots, Semicolon, Number, Bad, Mode, Between, Comment, Dot, Digits, is_digit, too_big, class_of, mode_begun, tokens_begun, mode_after, tokens_at, tokens_from}
-use Rattle.gap_text.specs.Reading.{State, step, run, read}
+use Rattle.gap_text.specs.Reading.{State, step, run}
 use Rattle.gap_text.specs.Grammar.{is_blank, is_commented, decimal_from, EndsDigits, EndsComment, Lexes, nothing, blank, comment, open_bracket, close_bracket, a_comma, a_semicolon, two_dots, digits}
 use Rattle.gap_text.proofs.Classes.{left_bracket-byte, right_bracket-byte, comma-byte, semicolon-byte, point-byte, hash-byte, line_feed-byte, blank-byte, no_comment-byte, digit-byte, class_of-blank, class_of-commented, class_of-digit, class_of-no_digit}
 
@@ -19,7 +18,7 @@ held t = t
 
 step-held : (s : State) (t : Token) → step s (held t) ≡ step s t
 step-held s (Number p n) = by_test (nat_lt n too_big) refl
-    where
+  where
     by_test : (b : Bool) → nat_lt n too_big ≡ b → step s (Number p (min n too_big)) ≡ step s (Number p n)
     by_test true e = let h : n < too_big = grind (arith, nat_tests) in let k : min n too_big ≡ n = omega arith in rw k refl
     by_test false e = let h : too_big ≤ n = grind (arith, nat_tests) in let k : min n too_big ≡ too_big = omega arith in rw (k, e) refl
@@ -121,9 +120,10 @@ digits-tokens p d ds bs e h =
 pub tokens_from-lexed : {p : ℕ} {bs : List ℕ} {ts : List Token} → Lexes p bs ts → tokens_from Between p bs ≡ map held ts
 tokens_from-lexed nothing = refl
 tokens_from-lexed (blank {p = p} {b = b} {bs = bs} e k) =
-    elim (class_of-blank b e)
-    [ inl h ↦ ap (λ (c : Class). tokens_begun p c ++ tokens_from (mode_begun p c) (suc p) bs) h ∙ tokens_from-lexed k
-    | inr h ↦ ap (λ (c : Class). tokens_begun p c ++ tokens_from (mode_begun p c) (suc p) bs) h ∙ tokens_from-lexed k ]
+    elim (class_of-blank b e) [
+      | inl h ↦ ap (λ (c : Class). tokens_begun p c ++ tokens_from (mode_begun p c) (suc p) bs) h ∙ tokens_from-lexed k
+      | inr h ↦ ap (λ (c : Class). tokens_begun p c ++ tokens_from (mode_begun p c) (suc p) bs) h ∙ tokens_from-lexed k
+    ]
 tokens_from-lexed (comment {p = p} cs {bs = bs} e h k) = tokens_from-comment cs bs (suc p) e h ∙ tokens_from-lexed k
 tokens_from-lexed (open_bracket {p = p} k) = ap (λ (ts : List Token). Open p ∷ ts) (tokens_from-lexed k)
 tokens_from-lexed (close_bracket {p = p} k) = ap (λ (ts : List Token). Close p ∷ ts) (tokens_from-lexed k)
@@ -156,7 +156,7 @@ record CommentSplit (bs : List ℕ) : Type 0 where
 comment_split : (bs : List ℕ) → CommentSplit bs
 comment_split [] = record { cs = []; left = []; whole = refl; commented = refl; ends = tt; shorter = omega arith }
 comment_split (b ∷ bs) = by_test (is_commented b) refl (comment_split bs)
-    where
+  where
     by_test : (t : Bool) → is_commented b ≡ t → CommentSplit bs → CommentSplit (b ∷ bs)
     by_test true e s = record {
       cs = b ∷ s.cs;
@@ -179,7 +179,7 @@ record DigitsSplit (bs : List ℕ) : Type 0 where
 digits_split : (bs : List ℕ) → DigitsSplit bs
 digits_split [] = record { ds = []; left = []; whole = refl; digital = refl; ends = tt; shorter = omega arith }
 digits_split (b ∷ bs) = by_test (is_digit b) refl (digits_split bs)
-    where
+  where
     by_test : (t : Bool) → is_digit b ≡ t → DigitsSplit bs → DigitsSplit (b ∷ bs)
     by_test true e s = record {
       ds = b ∷ s.ds;
@@ -235,9 +235,9 @@ lexed_class fuel lexer b bs p (Digit x) e short n =
     let digital : list_all is_digit (b ∷ s.ds) ≡ true = ap (λ (t : Bool). t && list_all is_digit s.ds) test ∙ s.digital in
     let token = Number p (min (decimal_from 0 (b ∷ s.ds)) too_big) in
     let made : tokens_from (Digits p x) (suc p) bs ≡ token ∷ tokens_from Between (suc p + length s.ds) s.left =
-            ap (λ (c : Class). tokens_begun p c ++ tokens_from (mode_begun p c) (suc p) bs) (sym e)
-            ∙ ap (λ (xs : List ℕ). tokens_from Between p (b ∷ xs)) (sym s.whole)
-            ∙ digits-tokens p b s.ds s.left digital s.ends in
+    ap (λ (c : Class). tokens_begun p c ++ tokens_from (mode_begun p c) (suc p) bs) (sym e)
+    ∙ ap (λ (xs : List ℕ). tokens_from Between p (b ∷ xs)) (sym s.whole)
+    ∙ digits-tokens p b s.ds s.left digital s.ends in
     let r = lexer s.left (suc p + length s.ds) (omega (arith, s.shorter)) (subst NoBad made n) in
     let ts = Number p (decimal_from 0 (b ∷ s.ds)) ∷ r.ts in
     record {

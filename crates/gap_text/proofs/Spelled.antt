@@ -1,5 +1,5 @@
 -- What the machine reads, the grammar reads: from the value that it gives back to the rules.
-use Rattle.std.proofs.Common.{◌≡◌, ℕ, zero, suc, ◌+◌, ◌<◌, ◌≤◌, List, [], ◌∷◌, ◌++◌, length, max, Bool, true, false, nat_lt, nat_le, if◌then◌else◌, Result, Ok, Err, refl, sym, ◌∙◌, ap, subst, arith, append_assoc, add_assoc, add-zero, append-nil}
+use Rattle.std.proofs.Common.{◌≡◌, ℕ, zero, suc, ◌+◌, ◌<◌, ◌≤◌, List, [], ◌∷◌, ◌++◌, length, Bool, true, false, nat_lt, nat_le, if◌then◌else◌, Result, Ok, Err, refl, sym, ◌∙◌, ap, subst, arith, append_assoc, add_assoc, add-zero, append-nil}
 use Rattle.std.proofs.lemmas.Bool.Decides.{nat_tests}
 use Rattle.gap_text.specs.declared.fault.TextFault.{TextFault}
 use Rattle.gap_text.specs.declared.fault.TextFault.TheVariants.{NumberTooBig, BadRange, TooDeep, Stray}
@@ -20,7 +20,7 @@ pub record Taken (s : State) (t : Token) (ts : List Token) (p : ℕ) (w : Value)
 
 pub taken : (s : State) (t : Token) (ts : List Token) (p : ℕ) (w : Value) → read s (t ∷ ts) p ≡ Ok w → Taken s t ts p w
 taken s t ts p w e = by_step (step s t) refl e
-    where
+  where
     by_step : (q : Result State TextFault) → step s t ≡ q
         → (elim (elim q as (λ x. Result State TextFault) [ Ok next ↦ run next ts | Err f ↦ Err f ]) as (λ x. Result Value TextFault) [ Ok last ↦ value_at_end last.phase p | Err f ↦ Err f ]) ≡ Ok w
         → Taken s t ts p w
@@ -271,7 +271,7 @@ mutual
       let f = first_number ls made q r n ts p w e in
       number_list ls made q r n p w f.fits few shallow f.goes
       (λ h. tail_read fuel ts q (number r n) [] ls (made + 0) p w (omega arith) (omega arith) shallow h
-          (ap (λ (c : ℕ). read (at AfterItem (level q (number r n ∷ []) ∷ ls) c) ts p) (add-zero made) ∙ f.goes))
+      (ap (λ (c : ℕ). read (at AfterItem (level q (number r n ∷ []) ∷ ls) c) ts p) (add-zero made) ∙ f.goes))
       (goes_on ts)
   list_read (suc fuel) (Open r ∷ ts) q ls made p w short few shallow e =
       let s = at FirstItem (level r [] ∷ level q [] ∷ ls) made in

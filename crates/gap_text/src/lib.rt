@@ -32,7 +32,7 @@ pub fn parse(alloc: Global, text: &[u8]) -> Result<Nest, TextFault>
 {
     let mut reader = Reader::new(alloc);
     for (place, byte) in text.iter().enumerate() {
-        reader = reader.feed(place as u32, Class::of(*byte))?;
+        reader.feed(place as u32, Class::of(*byte))?;
     }
     reader.into_value(text.len() as u32)
 }
