@@ -25,7 +25,7 @@ number-step ls made p n h = grind (arith, nat_tests)
 first-number-step : (ls : List Level) (made p n : ℕ) → n < too_big → step (at FirstItem ls made) (Number p n) ≡ Ok (put (number p n) ls made)
 first-number-step ls made p n h = grind (arith, nat_tests)
 
-range-step : (l : Level) (ls : List Level) (made p n q a : ℕ) → n < too_big → made + span a n ≤ 1000000
+pub range-step : (l : Level) (ls : List Level) (made p n q a : ℕ) → n < too_big → made + span a n ≤ 1000000
     → step (at (RangeEnd q a) (l ∷ ls) made) (Number p n) ≡ Ok (at RangeClose (level l.place (l.so_far ++ counted q a (span a n)) ∷ ls) (made + span a n))
 range-step l ls made p n q a h k = grind (arith, nat_tests)
 

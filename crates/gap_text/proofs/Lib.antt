@@ -1,8 +1,9 @@
 pub mod Accepted
 pub mod Classes
 pub mod Counted
-pub mod Laws
+pub mod Joined
 pub mod Lexed
+pub mod Placed
 pub mod Run
 pub mod Spelled
 pub mod Stack

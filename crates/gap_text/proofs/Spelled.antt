@@ -28,20 +28,20 @@ taken s t ts p w e = by_step (step s t) refl e
     by_step (Err f) h e = absurd (cc)
 
 -- what a test lets through
-passed : (b : Bool) (r : Result State TextFault) (f : TextFault) (next : State) → (if b then r else Err f) ≡ Ok next → (b ≡ true) × (r ≡ Ok next)
+pub passed : (b : Bool) (r : Result State TextFault) (f : TextFault) (next : State) → (if b then r else Err f) ≡ Ok next → (b ≡ true) × (r ≡ Ok next)
 passed true r f next e = (refl, e)
 passed false r f next e = absurd (cc)
 
-same_state : (s next : State) → ◌≡◌ {A = Result State TextFault} (Ok s) (Ok next) → s ≡ next
+pub same_state : (s next : State) → ◌≡◌ {A = Result State TextFault} (Ok s) (Ok next) → s ≡ next
 same_state s next e = cc
 
-no_state : (f : TextFault) (next : State) → ◌≡◌ {A = Result State TextFault} (Err f) (Ok next) → ⊥
+pub no_state : (f : TextFault) (next : State) → ◌≡◌ {A = Result State TextFault} (Err f) (Ok next) → ⊥
 no_state f next e = cc
 
-below : (m n : ℕ) → nat_lt m n ≡ true → m < n
+pub below : (m n : ℕ) → nat_lt m n ≡ true → m < n
 below m n e = grind (arith, nat_tests)
 
-at_most : (m n : ℕ) → nat_le m n ≡ true → m ≤ n
+pub at_most : (m n : ℕ) → nat_le m n ≡ true → m ≤ n
 at_most m n e = grind (arith, nat_tests)
 
 -- ---- what the rest of the tokens holds, by the state that is before them

@@ -7,12 +7,16 @@ ghost use Rattle.gap_text.specs.Reading.{value_of};
 
 mod byte;
 mod fault;
+mod laws;
 mod nest;
 mod reader;
 mod state;
+#[cfg(test)]
+mod tests;
 
 use byte::Class;
 pub use fault::TextFault;
+pub use laws::{fault_is_no_value, fault_is_placed, value_is_spelled};
 pub use nest::{Items, Nest};
 use reader::Reader;
 use std::alloc::Global;
