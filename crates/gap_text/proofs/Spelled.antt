@@ -9,7 +9,7 @@ use Rattle.gap_text.specs.Value.{Value, Values, number, list, none, more, items,
 use Rattle.gap_text.specs.Tokens.{Token, Open, Close, Comma, Dots, Semicolon, Number, Bad, too_big}
 use Rattle.gap_text.specs.Reading.{State, Level, AnyValue, FirstItem, AfterItem, RangeEnd, RangeClose, Whole, Over, at, level, put, span, counted, shape_of, range_begun, step, run, read, start, value_at_end}
 use Rattle.gap_text.specs.Grammar.{Reads, ReadsItems, IsText, a_number, an_empty, a_range, a_list, the_last, and_more, plain, ended, Spells}
-use Rattle.gap_text.proofs.Accepted.{values-items}
+use Rattle.gap_text.proofs.Views.{values-items}
 
 -- ---- a token that was taken
 
