@@ -2,7 +2,7 @@
 use Rattle.std.proofs.Common.{◌≡◌, ℕ, suc, ◌+◌, ◌<◌, ◌≤◌, List, [], ◌∷◌, ◌++◌, length, Result, Ok, Err, refl, ◌∙◌, ap, arith, append_assoc, add_assoc, add-zero}
 use Rattle.std.proofs.lemmas.Bool.Decides.{nat_tests}
 use Rattle.gap_text.specs.declared.fault.TextFault.{TextFault}
-use Rattle.gap_text.specs.Value.{Value, Values, number, list, none, more, items, values, depth, deepest}
+use Rattle.gap_text.specs.Value.{Value, Values, number, list, items, values, depth, deepest}
 use Rattle.gap_text.specs.Tokens.{Token, Open, Close, Dots, Number, too_big}
 use Rattle.gap_text.specs.Reading.{State, Level, AnyValue, FirstItem, AfterItem, RangeEnd, RangeClose, at, level, put, span, counted, step, run, read, start, value_at_end}
 use Rattle.gap_text.proofs.Views.{values-items}
