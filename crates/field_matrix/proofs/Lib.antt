@@ -1,0 +1,5 @@
+mod Cut
+mod Places
+mod Clear
+mod BringUp
+mod Reduced

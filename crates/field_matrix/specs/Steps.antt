@@ -1,0 +1,30 @@
+use Rattle.std.specs.Prelude.{◌≡◌, ◌≢◌, ℕ, ◌<◌, ◌≤◌, List, length}
+use Rattle.small_field.specs.Field.{Ops}
+use Rattle.linear_algebra.specs.Vectors.{IsMatrix, SameSpan, row_at, entry}
+
+-- what clearing a column leaves in the rows before `upto`, where row `rank` has a 1 there and nothing before it
+pub record IsCleared (k : Ops) (cols rank col upto : ℕ) (before after : List (List ℕ)) : Type 0 where
+  pub matrix : IsMatrix k cols after
+  pub long : length after ≡ length before
+  pub span : SameSpan k cols before after
+  pub kept : row_at after rank ≡ row_at before rank
+  pub earlier : (i j : ℕ) → j < col → entry after i j ≡ entry before i j
+  pub clear : (i : ℕ) → i < upto → i < length before → i ≢ rank → entry after i col ≡ 0
+
+-- row `rank` begins with a 1 at the column
+pub record IsPivotRow (rows : List (List ℕ)) (rank col : ℕ) : Type 0 where
+  pub one : entry rows rank col ≡ 1
+  pub first : (j : ℕ) → j < col → entry rows rank j ≡ 0
+
+-- the rows before `rank` stay, the others are zero before the column, and row `rank` has a 1 there
+pub record IsBroughtUp (k : Ops) (cols rank col : ℕ) (before after : List (List ℕ)) : Type 0 where
+  pub matrix : IsMatrix k cols after
+  pub long : length after ≡ length before
+  pub span : SameSpan k cols before after
+  pub above : (i : ℕ) → i < rank → row_at after i ≡ row_at before i
+  pub below : (i j : ℕ) → rank ≤ i → i < length before → j < col → entry after i j ≡ 0
+  pub one : entry after rank col ≡ 1
+
+-- the rows from `rank` on are zero before the column
+abbrev pub ZeroBelow : ℕ → ℕ → List (List ℕ) → Type 0
+ZeroBelow rank col rows = (i j : ℕ) → rank ≤ i → i < length rows → j < col → entry rows i j ≡ 0

@@ -1,0 +1,5 @@
+//! Rows and matrices over a small field.
+#![tactic(auto)]
+
+mod flat;
+mod reduce;
