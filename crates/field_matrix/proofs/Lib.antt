@@ -3,3 +3,5 @@ mod Places
 mod Clear
 mod BringUp
 mod Reduced
+mod Ranks
+mod Views

@@ -2,4 +2,9 @@
 #![tactic(auto)]
 
 mod flat;
+mod matrix;
 mod reduce;
+mod row;
+
+pub use matrix::Matrix;
+pub use row::Row;
