@@ -13,3 +13,4 @@ pub mod Linear
 pub mod Laws
 pub mod Marks
 pub mod Halves
+pub mod History
