@@ -21,12 +21,12 @@ no_coefficients : (cs : List ℕ) → length cs ≡ 0 → cs ≡ []
 no_coefficients [] h = refl
 no_coefficients (c ∷ cs) h = absurd (omega arith)
 
-take_zeros : (m n : ℕ) → take m (replicate {A = ℕ} (m + n) 0) ≡ replicate m 0
+pub take_zeros : (m n : ℕ) → take m (replicate {A = ℕ} (m + n) 0) ≡ replicate m 0
 take_zeros zero n = refl
 take_zeros (suc m) n =
     ap (λ (j : ℕ). take (suc m) (replicate {A = ℕ} j 0)) (let e : suc m + n ≡ suc (m + n) = omega arith in e) ∙ ap (λ (r : List ℕ). 0 ∷ r) (take_zeros m n)
 
-drop_zeros : (m n : ℕ) → drop m (replicate {A = ℕ} (m + n) 0) ≡ replicate n 0
+pub drop_zeros : (m n : ℕ) → drop m (replicate {A = ℕ} (m + n) 0) ≡ replicate n 0
 drop_zeros zero n = ap (λ (j : ℕ). replicate {A = ℕ} j 0) (let e : 0 + n ≡ n = omega arith in e)
 drop_zeros (suc m) n = ap (λ (j : ℕ). drop (suc m) (replicate {A = ℕ} j 0)) (let e : suc m + n ≡ suc (m + n) = omega arith in e) ∙ drop_zeros m n
 

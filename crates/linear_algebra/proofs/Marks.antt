@@ -82,7 +82,7 @@ module _ (k : Ops) (f : IsField k) where
   plus_scaled-append s (x ∷ xs) ys [] vs same = absurd (omega arith)
   plus_scaled-append s (x ∷ xs) ys (u ∷ us) vs same = ap (λ (r : List ℕ). k.add x (k.mul s u) ∷ r) (plus_scaled-append s xs ys us vs (omega arith))
 
-  zeros_append : (m n : ℕ) → replicate {A = ℕ} (m + n) 0 ≡ replicate m 0 ++ replicate n 0
+  pub zeros_append : (m n : ℕ) → replicate {A = ℕ} (m + n) 0 ≡ replicate m 0 ++ replicate n 0
   zeros_append zero n = ap (λ (j : ℕ). replicate {A = ℕ} j 0) (let e : 0 + n ≡ n = omega arith in e)
   zeros_append (suc m) n = ap (λ (j : ℕ). replicate {A = ℕ} j 0) (let e : suc m + n ≡ suc (m + n) = omega arith in e) ∙ ap (λ (r : List ℕ). 0 ∷ r) (zeros_append m n)
 
