@@ -5,3 +5,5 @@ mod BringUp
 mod Reduced
 mod Ranks
 mod Views
+mod Built
+mod Sweep

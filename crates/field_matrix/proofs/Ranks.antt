@@ -1,7 +1,7 @@
 use Rattle.std.proofs.Common.{◌≡◌, ◌≢◌, ℕ, zero, suc, ◌+◌, ◌<◌, ◌≤◌, ◌⊎◌, inl, inr, List, [], ◌∷◌, length, replicate, take, get_or, true, false, cond, not, ◌==◌, is_some, Option, Some, None, refl, ap, sym, ◌∙◌, arith, subst}
 use Rattle.std.specs.List.{sum_by}
 use Rattle.std.proofs.lemmas.List.Sums.{sum_by-cons, sum_by_more}
-use Rattle.std.proofs.lemmas.List.{take_all}
+use Rattle.std.proofs.lemmas.List.{take_all, length-take-le, get_or-take}
 use Rattle.std.proofs.lemmas.Bool.Decides.{nat_tests}
 use native.Mathlib.Decide.{dec_lt}
 use Prim.{yes, no}
@@ -91,14 +91,27 @@ module _ (k : Ops) (f : IsField k) where
       let long : length (row_at rows i) ≡ n = v.long in
       zero_row (row_at rows i) (λ j lj. h.zero i j le lt (omega arith)))
 
+  -- the pivot of a row, where the first `width` columns are reduced
+  pub pivot_first_in : (cols width : ℕ) (rows : List (List ℕ)) (pivots : List ℕ) (i : ℕ) → width ≤ cols → IsMatrix k cols rows → IsReducedBelow width rows pivots → i < length pivots → First (take width (row_at rows i)) (get_or pivots i 0)
+  pivot_first_in cols width rows pivots i le a h lt =
+      let few : length pivots ≤ length rows = h.few in
+      let v : IsVector k cols (row_at rows i) = all_at k f (IsVector k cols) rows i [] (omega arith) a in
+      let long : length (row_at rows i) ≡ cols = v.long in
+      let lw : length (take width (row_at rows i)) ≡ width = length-take-le width (row_at rows i) (omega arith) in
+      let p : get_or pivots i 0 < width = h.within i lt in
+      record {
+        within = omega arith;
+        before = λ j lj. get_or-take width (row_at rows i) j 0 (omega arith) ∙ h.first i j lt lj;
+        here = λ z. one_is_not_zero (sym (h.one i lt) ∙ (sym (get_or-take width (row_at rows i) (get_or pivots i 0) 0 p) ∙ z));
+      }
+
   -- the pivot of a row
   pub pivot_first : (n : ℕ) (rows : List (List ℕ)) (pivots : List ℕ) (i : ℕ) → IsMatrix k n rows → IsReducedBelow n rows pivots → i < length pivots → First (row_at rows i) (get_or pivots i 0)
   pivot_first n rows pivots i a h lt =
       let few : length pivots ≤ length rows = h.few in
       let v : IsVector k n (row_at rows i) = all_at k f (IsVector k n) rows i [] (omega arith) a in
       let long : length (row_at rows i) ≡ n = v.long in
-      let p : get_or pivots i 0 < n = h.within i lt in
-      record { within = omega arith; before = λ j lj. h.first i j lt lj; here = λ z. one_is_not_zero (sym (h.one i lt) ∙ z) }
+      subst (λ (w : List ℕ). First w (get_or pivots i 0)) (take_all n (row_at rows i) (omega arith)) (pivot_first_in n n rows pivots i (omega arith) a h lt)
 
   pub pivot_place : (n : ℕ) (rows : List (List ℕ)) (pivots : List ℕ) (i : ℕ) → IsMatrix k n rows → IsReducedBelow n rows pivots → i < rank_of rows → first_place (row_at rows i) ≡ Some (get_or pivots i 0)
   pivot_place n rows pivots i a h lt =

@@ -27,7 +27,8 @@ pub fn begin_of(entries: &[u8], shape: Shape, row: usize) -> usize
 pub fn row_of(entries: &[u8], shape: Shape, row: usize) -> &[u8]
     requires shape { length entries.now ≡ shape.rows * shape.cols }
     requires row { row < shape.rows }
-    ensures { result.now ≡ row_at (cut shape.rows shape.cols entries.now) row }
+    ensures row { result.now ≡ row_at (cut shape.rows shape.cols entries.now) row }
+    ensures long { length result.now ≡ shape.cols }
 {
     let begin = begin_of(entries, shape, row);
     &entries[begin..begin + shape.cols]

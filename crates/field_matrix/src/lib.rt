@@ -2,6 +2,7 @@
 #![tactic(auto)]
 
 mod flat;
+mod joined;
 mod matrix;
 mod reduce;
 mod row;

@@ -21,7 +21,7 @@ add_scaled_row-requires-clause-lengths g c =
     let split : IsSplit n cols to xs front mid back =
     split_twice n cols to c.begin_of-begin.result xs front one.result.1.now mid back one.ensures.value two.ensures.value one.ensures.front_len c.begin_of-begin.ensures.begin two.ensures.front_len c.requires.to in
     let source : List ℕ = c.row_of-source.result.now in
-    let is : source ≡ row_at (cut n cols xs) from = c.row_of-source.ensures ∙ sym (row_before n cols to xs front mid back split from c.if-from-to.true) in
+    let is : source ≡ row_at (cut n cols xs) from = c.row_of-source.ensures.row ∙ sym (row_before n cols to xs front mid back split from c.if-from-to.true) in
     row_long k f n cols from xs source c.requires.matrix c.requires.from is ∙ sym split.long
 
 pub add_scaled_row-requires-clause-target : goal.add_scaled_row-requires-clause-target
@@ -59,7 +59,7 @@ add_scaled_row-requires-clause-source g c =
     let split : IsSplit n cols to xs front mid back =
     split_twice n cols to c.begin_of-begin.result xs front one.result.1.now mid back one.ensures.value two.ensures.value one.ensures.front_len c.begin_of-begin.ensures.begin two.ensures.front_len c.requires.to in
     let source : List ℕ = c.row_of-source.result.now in
-    let is : source ≡ row_at (cut n cols xs) from = c.row_of-source.ensures ∙ sym (row_before n cols to xs front mid back split from c.if-from-to.true) in
+    let is : source ≡ row_at (cut n cols xs) from = c.row_of-source.ensures.row ∙ sym (row_before n cols to xs front mid back split from c.if-from-to.true) in
     row_below k f g.F.Field.SIZE n cols from xs source g.met.F.Field.size_is c.requires.matrix c.requires.from is
 
 pub row_of-source-requires-else-from-to-clause-shape : goal.row_of-source-requires-else-from-to-clause-shape
@@ -98,7 +98,7 @@ add_scaled_row-requires-else-from-to-clause-lengths g c =
     split_twice n cols to c.begin_of-begin.result xs front one.result.1.now mid back one.ensures.value two.ensures.value one.ensures.front_len c.begin_of-begin.ensures.begin two.ensures.front_len c.requires.to in
     let source : List ℕ = c.row_of-source-else-from-to.result.now in
     let is : source ≡ row_at (cut n cols xs) from =
-    c.row_of-source-else-from-to.ensures ∙ sym (row_after n cols to xs front mid back split (n - to - 1) (from - to - 1) from (omega arith) (omega arith)) in
+    c.row_of-source-else-from-to.ensures.row ∙ sym (row_after n cols to xs front mid back split (n - to - 1) (from - to - 1) from (omega arith) (omega arith)) in
     row_long k f n cols from xs source c.requires.matrix c.requires.from is ∙ sym split.long
 
 pub add_scaled_row-requires-else-from-to-clause-target : goal.add_scaled_row-requires-else-from-to-clause-target
@@ -137,7 +137,7 @@ add_scaled_row-requires-else-from-to-clause-source g c =
     split_twice n cols to c.begin_of-begin.result xs front one.result.1.now mid back one.ensures.value two.ensures.value one.ensures.front_len c.begin_of-begin.ensures.begin two.ensures.front_len c.requires.to in
     let source : List ℕ = c.row_of-source-else-from-to.result.now in
     let is : source ≡ row_at (cut n cols xs) from =
-    c.row_of-source-else-from-to.ensures ∙ sym (row_after n cols to xs front mid back split (n - to - 1) (from - to - 1) from (omega arith) (omega arith)) in
+    c.row_of-source-else-from-to.ensures.row ∙ sym (row_after n cols to xs front mid back split (n - to - 1) (from - to - 1) from (omega arith) (omega arith)) in
     row_below k f g.F.Field.SIZE n cols from xs source g.met.F.Field.size_is c.requires.matrix c.requires.from is
 
 pub returns-then-from-to : goal.returns-then-from-to
@@ -157,7 +157,7 @@ returns-then-from-to g c =
     let split : IsSplit n cols to xs front mid back =
     split_twice n cols to c.begin_of-begin.result xs front one.result.1.now mid back one.ensures.value two.ensures.value one.ensures.front_len c.begin_of-begin.ensures.begin two.ensures.front_len c.requires.to in
     let source : List ℕ = c.row_of-source.result.now in
-    let is : source ≡ row_at (cut n cols xs) from = c.row_of-source.ensures ∙ sym (row_before n cols to xs front mid back split from c.if-from-to.true) in
+    let is : source ≡ row_at (cut n cols xs) from = c.row_of-source.ensures.row ∙ sym (row_before n cols to xs front mid back split from c.if-from-to.true) in
     combined k f n cols to from (g.F.Field.number_of c.args.factor) xs front mid back source c.add_scaled_row.new.target split c.requires.matrix c.requires.from is c.add_scaled_row.ensures
 
 pub returns-else-from-to : goal.returns-else-from-to
@@ -178,5 +178,5 @@ returns-else-from-to g c =
     split_twice n cols to c.begin_of-begin.result xs front one.result.1.now mid back one.ensures.value two.ensures.value one.ensures.front_len c.begin_of-begin.ensures.begin two.ensures.front_len c.requires.to in
     let source : List ℕ = c.row_of-source-else-from-to.result.now in
     let is : source ≡ row_at (cut n cols xs) from =
-    c.row_of-source-else-from-to.ensures ∙ sym (row_after n cols to xs front mid back split (n - to - 1) (from - to - 1) from (omega arith) (omega arith)) in
+    c.row_of-source-else-from-to.ensures.row ∙ sym (row_after n cols to xs front mid back split (n - to - 1) (from - to - 1) from (omega arith) (omega arith)) in
     combined k f n cols to from (g.F.Field.number_of c.args.factor) xs front mid back source c.add_scaled_row-else-from-to.new.target split c.requires.matrix c.requires.from is c.add_scaled_row-else-from-to.ensures

@@ -2,8 +2,8 @@ use Rattle.std.proofs.Common.{◌≡◌, ℕ, List, ◌+◌, ◌-◌, ◌*◌, s
 use Rattle.field_matrix.proofs.Places.{row_is, split_at}
 use Rattle.field_matrix.proofs.flat.row_of.Goals as goal
 
-pub returns : goal.returns
-returns c =
+pub returns-clause-row : goal.returns-clause-row
+returns-clause-row c =
     let xs : List ℕ = c.args.entries.now in
     let begin : ℕ = c.begin_of-begin.result in
     let cols : ℕ = c.args.shape.cols in

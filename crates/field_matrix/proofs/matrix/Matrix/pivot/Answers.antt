@@ -38,7 +38,7 @@ first_nonzero-requires g c =
     let few : length reduced.pivots ≤ length (cut n cols xs) = reduced.reduced.few in
     let within : c.args.row < n = omega (arith, length-cut n cols xs) in
     let row : List ℕ = c.row_of.result.now in
-    let is : row ≡ row_at (cut n cols xs) c.args.row = c.row_of.ensures ∙ ap (λ (w : List ℕ). row_at (cut n cols w) c.args.row) c.deref.ensures.value in
+    let is : row ≡ row_at (cut n cols xs) c.args.row = c.row_of.ensures.row ∙ ap (λ (w : List ℕ). row_at (cut n cols w) c.args.row) c.deref.ensures.value in
     let long : length row ≡ cols = row_long k f n cols c.args.row xs row a within is in
     omega arith
 
@@ -57,7 +57,7 @@ unwrap-requires g c =
     let within : c.args.row < n = omega (arith, length-cut n cols xs) in
     let first : first_place (row_at (cut n cols xs) c.args.row) ≡ Some (get_or reduced.pivots c.args.row 0) = pivot_place k f cols (cut n cols xs) reduced.pivots c.args.row a reduced.reduced below in
     let row : List ℕ = c.row_of.result.now in
-    let is : row ≡ row_at (cut n cols xs) c.args.row = c.row_of.ensures ∙ ap (λ (w : List ℕ). row_at (cut n cols w) c.args.row) c.deref.ensures.value in
+    let is : row ≡ row_at (cut n cols xs) c.args.row = c.row_of.ensures.row ∙ ap (λ (w : List ℕ). row_at (cut n cols w) c.args.row) c.deref.ensures.value in
     let found : c.first_nonzero.result ≡ Some (get_or reduced.pivots c.args.row 0) = c.first_nonzero.ensures ∙ (ap first_place is ∙ first) in
     subst IsSome (sym found) refl
 
@@ -75,7 +75,7 @@ returns-clause-first g c =
     let few : length reduced.pivots ≤ length (cut n cols xs) = reduced.reduced.few in
     let within : c.args.row < n = omega (arith, length-cut n cols xs) in
     let row : List ℕ = c.row_of.result.now in
-    let is : row ≡ row_at (cut n cols xs) c.args.row = c.row_of.ensures ∙ ap (λ (w : List ℕ). row_at (cut n cols w) c.args.row) c.deref.ensures.value in
+    let is : row ≡ row_at (cut n cols xs) c.args.row = c.row_of.ensures.row ∙ ap (λ (w : List ℕ). row_at (cut n cols w) c.args.row) c.deref.ensures.value in
     let seen : first_place row ≡ Some c.unwrap.result = sym c.first_nonzero.ensures ∙ c.unwrap.ensures in
     subst (λ (w : Rows). first_place (row_at w.rows c.args.row) ≡ Some c.unwrap.result) c.self.view_is (ap first_place (sym is) ∙ seen)
 
@@ -93,7 +93,7 @@ returns-clause-pivots g c =
     let few : length reduced.pivots ≤ length (cut n cols xs) = reduced.reduced.few in
     let within : c.args.row < n = omega (arith, length-cut n cols xs) in
     let row : List ℕ = c.row_of.result.now in
-    let is : row ≡ row_at (cut n cols xs) c.args.row = c.row_of.ensures ∙ ap (λ (w : List ℕ). row_at (cut n cols w) c.args.row) c.deref.ensures.value in
+    let is : row ≡ row_at (cut n cols xs) c.args.row = c.row_of.ensures.row ∙ ap (λ (w : List ℕ). row_at (cut n cols w) c.args.row) c.deref.ensures.value in
     λ pivots h.
     let reduced' : IsReducedBelow cols (cut n cols xs) pivots = subst (λ (w : Rows). IsReducedBelow w.cols w.rows pivots) (sym c.self.view_is) h in
     let first : first_place (row_at (cut n cols xs) c.args.row) ≡ Some (get_or pivots c.args.row 0) = pivot_place k f cols (cut n cols xs) pivots c.args.row a reduced' below in

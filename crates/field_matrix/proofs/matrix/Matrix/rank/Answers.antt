@@ -19,7 +19,7 @@ first_nonzero-requires g c =
     let xs : List ℕ = c.self.inside.entries.items in
     let a : IsMatrix k cols (cut n cols xs) = cut-matrix k n cols xs c.self.invariant.long c.self.invariant.elements in
     let row : List ℕ = c.row_of.result.now in
-    let is : row ≡ row_at (cut n cols xs) c.loop-row.row = c.row_of.ensures ∙ ap (λ (w : List ℕ). row_at (cut n cols w) c.loop-row.row) c.deref.ensures.value in
+    let is : row ≡ row_at (cut n cols xs) c.loop-row.row = c.row_of.ensures.row ∙ ap (λ (w : List ℕ). row_at (cut n cols w) c.loop-row.row) c.deref.ensures.value in
     let long : length row ≡ cols = row_long k f n cols c.loop-row.row xs row a c.loop-row-test.true is in
     omega arith
 
@@ -32,7 +32,7 @@ loop-row-preserved g c =
     let xs : List ℕ = c.self.inside.entries.items in
     let a : IsMatrix k cols (cut n cols xs) = cut-matrix k n cols xs c.self.invariant.long c.self.invariant.elements in
     let row : List ℕ = c.row_of.result.now in
-    let is : row ≡ row_at (cut n cols xs) c.loop-row.row = c.row_of.ensures ∙ ap (λ (w : List ℕ). row_at (cut n cols w) c.loop-row.row) c.deref.ensures.value in
+    let is : row ≡ row_at (cut n cols xs) c.loop-row.row = c.row_of.ensures.row ∙ ap (λ (w : List ℕ). row_at (cut n cols w) c.loop-row.row) c.deref.ensures.value in
     let i : ℕ = c.loop-row.row in
     let rows : List (List ℕ) = cut n cols xs in
     let told : c.is_some.result ≡ is_nonzero (row_at rows i) = c.is_some.ensures ∙ (ap is_some (c.first_nonzero.ensures ∙ ap first_place is) ∙ told_by_first (row_at rows i)) in
