@@ -7,3 +7,4 @@ mod Ranks
 mod Views
 mod Built
 mod Sweep
+mod Solved

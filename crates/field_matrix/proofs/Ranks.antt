@@ -1,5 +1,5 @@
 use Rattle.std.proofs.Common.{◌≡◌, ◌≢◌, ℕ, zero, suc, ◌+◌, ◌<◌, ◌≤◌, ◌⊎◌, inl, inr, List, [], ◌∷◌, length, replicate, take, get_or, true, false, cond, not, ◌==◌, is_some, Option, Some, None, refl, ap, sym, ◌∙◌, arith, subst}
-use Rattle.std.specs.List.{sum_by}
+use Rattle.std.specs.List.{sum_by, AllByRecursion}
 use Rattle.std.proofs.lemmas.List.Sums.{sum_by-cons, sum_by_more}
 use Rattle.std.proofs.lemmas.List.{take_all, length-take-le, get_or-take}
 use Rattle.std.proofs.lemmas.Bool.Decides.{nat_tests}
@@ -8,11 +8,13 @@ use Prim.{yes, no}
 use Rattle.lane_rows.specs.Lanes.{first_place}
 use Rattle.lane_rows.proofs.Loops.{place_found, place_missing}
 use Rattle.small_field.specs.Field.{Ops, IsField}
-use Rattle.linear_algebra.specs.Vectors.{IsVector, IsMatrix, IsBasis, row_at, entry}
+use Rattle.linear_algebra.specs.Vectors.{IsVector, IsMatrix, IsBasis, InSpan, row_at, entry}
 use Rattle.linear_algebra.specs.Echelon.{IsReducedBelow, IsReducedTo, IsReduced, is_nonzero, rank_of}
-use Rattle.linear_algebra.proofs.Span.{all_at}
+use Rattle.linear_algebra.proofs.Span.{all_at, span_rows}
 use Rattle.linear_algebra.proofs.Scaled.{one_is_not_zero}
 use Rattle.linear_algebra.proofs.Laws.{rank_of_basis}
+use Rattle.linear_algebra.proofs.Betti.{all_take, all_weaker, in_span_trans, pivots_span, pivots_independent, long_pivots}
+use Rattle.linear_algebra.proofs.Betti.{rank_is_dimension as same_rank}
 
 nonzero_at : (row : List ℕ) (j : ℕ) → get_or row j 0 ≢ 0 → is_nonzero row ≡ true
 nonzero_at [] j ne = absurd (ne refl)
@@ -134,3 +136,14 @@ module _ (k : Ops) (f : IsField k) where
         reduced = h.reduced;
       })
       b
+
+  -- reduced forms of the same rows have the same rank
+  pub rank_unique : (n r s : ℕ) (rows one other : List (List ℕ)) → IsMatrix k n rows → IsReducedTo k n r n rows one → IsReducedTo k n s n rows other → r ≡ s
+  rank_unique n r s rows one other a h g =
+      let us : List (List ℕ) = take r one in
+      let m : IsMatrix k n us = all_take (IsVector k n) r one h.matrix in
+      let spans : AllByRecursion (InSpan k n us) rows =
+      all_weaker (InSpan k n one) (InSpan k n us) (λ w p. in_span_trans k f n one us w m (pivots_span k f n r rows one h) p) rows
+      (all_weaker (InSpan k n rows) (InSpan k n one) h.span.there rows (span_rows k f n rows a)) in
+      let inside : AllByRecursion (InSpan k n rows) us = all_take (InSpan k n rows) r one (all_weaker (InSpan k n one) (InSpan k n rows) h.span.back one (span_rows k f n one h.matrix)) in
+      sym (long_pivots k f n r rows one h) ∙ same_rank k f n s rows other g us m (pivots_independent k f n r rows one h) spans inside

@@ -98,6 +98,7 @@ pub fn sweep<F: Field>(joined: &[u8], shape: Shape, width: usize, rank: usize, r
     requires matrix { IsMatrix F.ops shape.cols (cut shape.rows shape.cols joined.now) }
     requires reduced { IsReducedBy width rank (cut shape.rows shape.cols joined.now) }
     requires row { IsVector F.ops shape.cols row.old }
+    ensures vector { IsVector F.ops shape.cols row.new }
     ensures swept { IsSwept F.ops shape.cols (cut shape.rows shape.cols joined.now) row.old row.new }
     ensures clear { IsClearAt width rank (cut shape.rows shape.cols joined.now) row.new }
 {

@@ -6,6 +6,7 @@ mod joined;
 mod matrix;
 mod reduce;
 mod row;
+mod solve;
 
 pub use matrix::Matrix;
 pub use row::Row;

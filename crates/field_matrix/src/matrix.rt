@@ -2,8 +2,9 @@
 
 ghost use Rattle.std.specs.Prelude.{◌≡◌, ℕ, ◌+◌, ◌*◌, ◌<◌, ◌≤◌, ◌^◌, List, length, replicate, slice_index, slice_set, Some, IfOk};
 ghost use Rattle.lane_rows.specs.Lanes.{first_place};
-ghost use Rattle.linear_algebra.specs.Vectors.{IsMatrix, IsBasis, row_at, entry};
+ghost use Rattle.linear_algebra.specs.Vectors.{AreElements, IsMatrix, IsBasis, row_at, entry};
 ghost use Rattle.linear_algebra.specs.Echelon.{IsReducedBelow, IsReducedTo, IsReduced, rank_of};
+ghost use Rattle.field_matrix.specs.Rows.{cut, IsFilled};
 
 use crate::flat::{entry_of, row_of, set_entry, Shape};
 use crate::reduce::reduce_rows;
@@ -139,5 +140,41 @@ impl<F: Field> Matrix<F> {
             cols: self.cols as usize,
         };
         lane_rows::first_nonzero(row_of(&self.entries, shape, row as usize)).unwrap()
+    }
+
+    /// A matrix with these entries, row after row.
+    pub(crate) fn from_entries(rows: u32, cols: u32, entries: Vec<u8>) -> Matrix<F>
+        requires long { length entries.items ≡ rows * cols }
+        requires elements { AreElements F.ops entries.items }
+        ensures cols { result.cols ≡ cols }
+        ensures rows { result.rows ≡ cut rows cols entries.items }
+    {
+        Matrix {
+            rows,
+            cols,
+            entries,
+            of: PhantomData,
+        }
+    }
+
+    /// How many rows and columns there are.
+    pub(crate) fn shape(&self) -> Shape
+        ensures rows { result.rows ≡ length self.now.rows }
+        ensures cols { result.cols ≡ self.now.cols }
+        ensures few_rows { result.rows < 2 ^ 32 }
+        ensures few_cols { result.cols < 2 ^ 32 }
+    {
+        Shape {
+            rows: self.rows as usize,
+            cols: self.cols as usize,
+        }
+    }
+
+    /// The entries, row after row.
+    pub(crate) fn entries(&self) -> &[u8]
+        ensures entries { IsFilled F.ops (length self.now.rows) self.now.cols result.now }
+        ensures rows { cut (length self.now.rows) self.now.cols result.now ≡ self.now.rows }
+    {
+        &self.entries
     }
 }

@@ -31,13 +31,13 @@ drop_zeros zero n = ap (λ (j : ℕ). replicate {A = ℕ} j 0) (let e : 0 + n �
 drop_zeros (suc m) n = ap (λ (j : ℕ). drop (suc m) (replicate {A = ℕ} j 0)) (let e : suc m + n ≡ suc (m + n) = omega arith in e) ∙ drop_zeros m n
 
 module _ (k : Ops) (f : IsField k) where
-  take-plus_scaled : (m s : ℕ) (xs ys : List ℕ) → take m (plus_scaled k s xs ys) ≡ plus_scaled k s (take m xs) (take m ys)
+  pub take-plus_scaled : (m s : ℕ) (xs ys : List ℕ) → take m (plus_scaled k s xs ys) ≡ plus_scaled k s (take m xs) (take m ys)
   take-plus_scaled zero s xs ys = refl
   take-plus_scaled (suc m) s [] ys = refl
   take-plus_scaled (suc m) s (x ∷ xs) [] = refl
   take-plus_scaled (suc m) s (x ∷ xs) (y ∷ ys) = ap (λ (r : List ℕ). k.add x (k.mul s y) ∷ r) (take-plus_scaled m s xs ys)
 
-  drop-plus_scaled : (m s : ℕ) (xs ys : List ℕ) → length xs ≡ length ys → drop m (plus_scaled k s xs ys) ≡ plus_scaled k s (drop m xs) (drop m ys)
+  pub drop-plus_scaled : (m s : ℕ) (xs ys : List ℕ) → length xs ≡ length ys → drop m (plus_scaled k s xs ys) ≡ plus_scaled k s (drop m xs) (drop m ys)
   drop-plus_scaled zero s xs ys same = refl
   drop-plus_scaled (suc m) s [] [] same = refl
   drop-plus_scaled (suc m) s [] (y ∷ ys) same = absurd (omega arith)

@@ -17,10 +17,10 @@ module _ (k : Ops) (f : IsField k) (m n r : ℕ) (rows after : List (List ℕ)) 
   same_length : length rows ≡ length (identity n)
   same_length = long ∙ sym (length-identity n)
 
-  long_after : length after ≡ n
+  pub long_after : length after ≡ n
   long_after = h.long ∙ (length-beside rows (identity n) same_length ∙ long)
 
-  joined_matrix : IsMatrix k (m + n) (beside rows (identity n))
+  pub joined_matrix : IsMatrix k (m + n) (beside rows (identity n))
   joined_matrix = beside_matrix k f m n rows (identity n) a (identity_matrix k f n)
 
   -- a combination of what stood side by side
@@ -106,7 +106,11 @@ module _ (k : Ops) (f : IsField k) (m n r : ℕ) (rows after : List (List ℕ)) 
         };
       }
 
-  few_rows : r ≤ length after
+  pub left_pivots : left_reduced.pivots ≡ h.pivots
+  unfolding left_reduced
+  left_pivots = refl
+
+  pub few_rows : r ≤ length after
   few_rows = let b : length h.pivots ≤ length after = h.reduced.few in let e : length h.pivots ≡ r = h.rank_is in omega arith
 
   -- the left halves from the rank on are zero
