@@ -8,3 +8,4 @@ mod Views
 mod Built
 mod Sweep
 mod Solved
+mod Complement

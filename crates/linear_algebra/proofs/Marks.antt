@@ -7,7 +7,7 @@ use Rattle.small_field.specs.Field.{Ops, IsField}
 use Rattle.linear_algebra.specs.Marks.{mark, shifted, identity, beside}
 use Rattle.linear_algebra.specs.Vectors.{AreElements, dot, column, IsVector, IsMatrix, plus_scaled, combination, InSpan, SameSpan, row_at}
 use Rattle.linear_algebra.proofs.Dot.{zero_below, add_zero, mul_zero, zero_mul, dot_zeros, dot_comm, dot_below}
-use Rattle.linear_algebra.proofs.Span.{combination-vector, zeros-elements, plus_scaled-long, one_times, span_within, same_span, span_rows}
+use Rattle.linear_algebra.proofs.Span.{combination-vector, combination-zeros, zeros-elements, one_times, zero_times, all_set}
 use Rattle.linear_algebra.proofs.Betti.{all_append}
 use Rattle.linear_algebra.proofs.RankSplit.{length-shifted, shifted_matrix, combination-shifted}
 
@@ -103,3 +103,33 @@ module _ (k : Ops) (f : IsField k) where
       let C : IsVector k m (combination k m cs rows) = combination-vector k f m cs rows a.1 in
       ap (λ (w : List ℕ). plus_scaled k c w (r ++ s)) (combination-beside m n cs rows others a.1 b.1 (omega arith))
       ∙ plus_scaled-append c (combination k m cs rows) (combination k n cs others) r s (C.long ∙ sym a.0.long)
+
+  -- the combination by a mark is the row there
+  pub combination-mark : (m n p : ℕ) (rows : List (List ℕ)) → IsMatrix k m rows → length rows ≡ n → p < n → combination k m (mark n p) rows ≡ row_at rows p
+  combination-mark m zero p rows a long lt = absurd (omega arith)
+  combination-mark m (suc n) p [] a long lt = absurd (omega arith)
+  combination-mark m (suc n) zero (r ∷ rows) a long lt =
+      ap (λ (w : List ℕ). plus_scaled k 1 w r) (combination-zeros k f m n rows a.1) ∙ one_times k f m r a.0.long a.0.elements
+  combination-mark m (suc n) (suc p) (r ∷ rows) a long lt =
+      let C : IsVector k m (combination k m (mark n p) rows) = combination-vector k f m (mark n p) rows a.1 in
+      zero_times k f (combination k m (mark n p) rows) r (C.long ∙ sym a.0.long) C.elements ∙ combination-mark m n p rows a.1 (omega arith) (omega arith)
+
+  pub mark_vector : (n p : ℕ) → IsVector k n (mark n p)
+  mark_vector n p = record { long = length-mark n p; elements = all_set k f (λ x. x < k.size) (replicate n 0) p 1 f.one_below (zeros-elements k f n) }
+
+  -- a mark reads the number there
+  pub dot_mark : (n p : ℕ) (us : List ℕ) → IsVector k n us → p < n → dot k (mark n p) us ≡ get_or us p 0
+  dot_mark zero p us v lt = absurd (omega arith)
+  dot_mark (suc n) p [] v lt = absurd (omega (arith, v.long))
+  dot_mark (suc n) zero (u ∷ us) v lt =
+      ap (k.add (k.mul 1 u)) (dot_comm k f (replicate n 0) us ∙ dot_zeros k f us n) ∙ (add_zero k f (k.mul 1 u) (f.mul_below 1 u) ∙ f.one_mul u v.elements.0)
+  dot_mark (suc n) (suc p) (u ∷ us) v lt =
+      let l : length us ≡ n = let h : length (u ∷ us) ≡ suc n = v.long in omega arith in
+      ap (λ (x : ℕ). k.add x (dot k (mark n p) us)) (zero_mul k f u)
+      ∙ (f.zero_add (dot k (mark n p) us) (dot_below k f (mark n p) us) ∙ dot_mark n p us (record { long = l; elements = v.elements.1 }) (omega arith))
+
+  pub dot-append : (xs ys us vs : List ℕ) → length xs ≡ length us → dot k (xs ++ ys) (us ++ vs) ≡ k.add (dot k xs us) (dot k ys vs)
+  dot-append [] ys [] vs same = sym (f.zero_add (dot k ys vs) (dot_below k f ys vs))
+  dot-append [] ys (u ∷ us) vs same = absurd (omega arith)
+  dot-append (x ∷ xs) ys [] vs same = absurd (omega arith)
+  dot-append (x ∷ xs) ys (u ∷ us) vs same = ap (k.add (k.mul x u)) (dot-append xs ys us vs (omega arith)) ∙ sym (f.add_assoc (k.mul x u) (dot k xs us) (dot k ys vs))
