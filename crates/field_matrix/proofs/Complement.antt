@@ -59,7 +59,7 @@ later : (s p : ℕ) (ps : List ℕ) → s ≤ p → ((i j : ℕ) → i < j → j
 later s p ps le h zero lt = le
 later s p ps le h (suc i) lt = let l : p < get_or ps i 0 = h 0 (suc i) (omega arith) lt in omega arith
 
-above_from : (s : ℕ) (ps : List ℕ) → ((i j : ℕ) → i < j → j < length ps → get_or ps i 0 < get_or ps j 0) → Above s ps
+pub above_from : (s : ℕ) (ps : List ℕ) → ((i j : ℕ) → i < j → j < length ps → get_or ps i 0 < get_or ps j 0) → Above s ps
 above_from s [] h = record { from = 0; many = omega arith; are = λ a lt. absurd (omega arith) }
 above_from s (p ∷ ps) h =
     elim (dec_lt p s) [
@@ -116,7 +116,7 @@ module _ (k : Ops) (f : IsField k) where
       ap (λ (x : ℕ). x ∷ us) is ∙ ap (λ (w : List ℕ). v ∷ w) (difference_zero m us vs (record { long = lu; elements = a.elements.1 }) (record { long = lv; elements = b.elements.1 }) rest)
 
   -- marks, and what they read
-  marks_matrix : (n : ℕ) (ps : List ℕ) → IsMatrix k n (map (mark n) ps)
+  pub marks_matrix : (n : ℕ) (ps : List ℕ) → IsMatrix k n (map (mark n) ps)
   marks_matrix n [] = tt
   marks_matrix n (p ∷ ps) = (mark_vector k f n p, marks_matrix n ps)
 
@@ -125,14 +125,14 @@ module _ (k : Ops) (f : IsField k) where
   marks_read n (p ∷ ps) t v h =
       ap (λ (x : ℕ). x ∷ boundary k (map (mark n) ps) t) (dot_mark k f n p t v h.0) ∙ ap (λ (w : List ℕ). get_or t p 0 ∷ w) (marks_read n ps t v h.1)
 
-  marks_rows : (m n : ℕ) (ps : List ℕ) (rows : List (List ℕ)) → IsMatrix k m rows → length rows ≡ n → AllByRecursion (λ p. p < n) ps → map (λ d. combination k m d rows) (map (mark n) ps) ≡ rows_at rows ps
+  pub marks_rows : (m n : ℕ) (ps : List ℕ) (rows : List (List ℕ)) → IsMatrix k m rows → length rows ≡ n → AllByRecursion (λ p. p < n) ps → map (λ d. combination k m d rows) (map (mark n) ps) ≡ rows_at rows ps
   marks_rows m n [] rows a long h = refl
   marks_rows m n (p ∷ ps) rows a long h =
       ap (λ (w : List ℕ). w ∷ map (λ d. combination k m d rows) (map (mark n) ps)) (combination-mark k f m n p rows a long h.0)
       ∙ ap (λ (ws : List (List ℕ)). row_at rows p ∷ ws) (marks_rows m n ps rows a long h.1)
 
   -- the combination of marks, on a vector that reads 1 at one of their places and 0 at the others
-  read_unit : (n i : ℕ) (cs ps t : List ℕ) → AreElements k cs → IsVector k n t → AllByRecursion (λ p. p < n) ps → length cs ≡ length ps → i < length ps → get_or t (get_or ps i 0) 0 ≡ 1 → ((j : ℕ) → j < length ps → j ≢ i → get_or t (get_or ps j 0) 0 ≡ 0) → dot k (combination k n cs (map (mark n) ps)) t ≡ get_or cs i 0
+  pub read_unit : (n i : ℕ) (cs ps t : List ℕ) → AreElements k cs → IsVector k n t → AllByRecursion (λ p. p < n) ps → length cs ≡ length ps → i < length ps → get_or t (get_or ps i 0) 0 ≡ 1 → ((j : ℕ) → j < length ps → j ≢ i → get_or t (get_or ps j 0) 0 ≡ 0) → dot k (combination k n cs (map (mark n) ps)) t ≡ get_or cs i 0
   read_unit n i cs ps t el v h long lt one others =
       let X : List ℕ = map (λ p. get_or t p 0) ps in
       let lX : length X ≡ length ps = length-map ps (λ p. get_or t p 0) in

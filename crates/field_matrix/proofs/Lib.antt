@@ -9,3 +9,4 @@ mod Built
 mod Sweep
 mod Solved
 mod Complement
+mod Bases
