@@ -17,7 +17,7 @@ use Rattle.linear_algebra.proofs.Dimension.{combination_twice}
 use Rattle.linear_algebra.proofs.Betti.{all_append, all_take, all_drop, all_weaker, in_span_trans, combination-append}
 use Rattle.linear_algebra.proofs.Marks.{dot-append, zeros_append}
 use Rattle.field_matrix.specs.Solutions.{above, rows_at, IsComplement}
-use Rattle.field_matrix.proofs.Complement.{above_low, above_high, Above, above_from, marks_matrix, marks_rows, read_unit, to_after, spanned}
+use Rattle.field_matrix.proofs.Chosen.{above_low, above_high, Above, above_from, marks_matrix, marks_rows, read_unit, to_after, spanned}
 
 all_parts : (P : List ℕ → Type 0) (xs ys : List (List ℕ)) → AllByRecursion P (xs ++ ys) → AllByRecursion P xs × AllByRecursion P ys
 all_parts P [] ys h = (tt, h)
@@ -170,8 +170,6 @@ module _ (k : Ops) (f : IsField k) where
 
     -- each basis of the others and the chosen rows together
     module _ (bs : List (List ℕ)) (b : IsBasis k m sub bs) where
-      together : List (List ℕ)
-      together = bs ++ rows_at rows places
 
       together_matrix : IsMatrix k m (bs ++ rows_at rows places)
       together_matrix = all_append (IsVector k m) bs (rows_at rows places) b.matrix chosen_matrix

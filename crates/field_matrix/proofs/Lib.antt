@@ -1,5 +1,5 @@
 mod Cut
-mod Places
+mod Splits
 mod Clear
 mod BringUp
 mod Reduced
@@ -8,5 +8,6 @@ mod Views
 mod Built
 mod Sweep
 mod Solved
-mod Complement
+mod Chosen
 mod Bases
+mod Turned

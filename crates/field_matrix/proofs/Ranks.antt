@@ -16,12 +16,12 @@ use Rattle.linear_algebra.proofs.Laws.{rank_of_basis}
 use Rattle.linear_algebra.proofs.Betti.{all_take, all_weaker, in_span_trans, pivots_span, pivots_independent, long_pivots}
 use Rattle.linear_algebra.proofs.Betti.{rank_is_dimension as same_rank}
 
-nonzero_at : (row : List ℕ) (j : ℕ) → get_or row j 0 ≢ 0 → is_nonzero row ≡ true
+pub nonzero_at : (row : List ℕ) (j : ℕ) → get_or row j 0 ≢ 0 → is_nonzero row ≡ true
 nonzero_at [] j ne = absurd (ne refl)
 nonzero_at (x ∷ row) zero ne = grind (arith, nat_tests)
 nonzero_at (x ∷ row) (suc j) ne = let r : is_nonzero row ≡ true = nonzero_at row j ne in grind (arith, nat_tests)
 
-zero_row : (row : List ℕ) → ((j : ℕ) → j < length row → get_or row j 0 ≡ 0) → is_nonzero row ≡ false
+pub zero_row : (row : List ℕ) → ((j : ℕ) → j < length row → get_or row j 0 ≡ 0) → is_nonzero row ≡ false
 zero_row [] z = refl
 zero_row (x ∷ row) z =
     let x0 : x ≡ 0 = z 0 (omega arith) in

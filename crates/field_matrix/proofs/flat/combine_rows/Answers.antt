@@ -1,7 +1,7 @@
 use Rattle.std.proofs.Common.{◌≡◌, ℕ, List, ◌+◌, ◌-◌, sym, ◌∙◌, arith}
 use Rattle.linear_algebra.specs.Vectors.{row_at}
 use Rattle.field_matrix.specs.Rows.{cut}
-use Rattle.field_matrix.proofs.Places.{IsSplit, split_twice, row_is, row_before, row_after, back_long, row_below, row_long, combined}
+use Rattle.field_matrix.proofs.Splits.{IsSplit, split_twice, row_is, row_before, row_after, back_long, row_below, row_long, combined}
 use Rattle.field_matrix.proofs.flat.combine_rows.Goals as goal
 
 pub add_scaled_row-requires-clause-lengths : goal.add_scaled_row-requires-clause-lengths

@@ -1,5 +1,5 @@
 use Rattle.std.proofs.Common.{◌≡◌, ℕ, List, ◌+◌, ◌-◌, ◌*◌, sym, ap, ◌∙◌, take, drop, arith}
-use Rattle.field_matrix.proofs.Places.{row_is, split_at}
+use Rattle.field_matrix.proofs.Splits.{row_is, split_at}
 use Rattle.field_matrix.proofs.flat.row_of.Goals as goal
 
 pub returns-clause-row : goal.returns-clause-row

@@ -1,6 +1,6 @@
 use Rattle.std.proofs.Common.{◌≡◌, ℕ, List, ◌+◌, sym, ap, ◌∙◌, set}
 use Rattle.field_matrix.specs.Rows.{cut}
-use Rattle.field_matrix.proofs.Places.{entry_put, split_at}
+use Rattle.field_matrix.proofs.Splits.{entry_put, split_at}
 use Rattle.field_matrix.proofs.flat.set_entry.Goals as goal
 
 pub returns : goal.returns

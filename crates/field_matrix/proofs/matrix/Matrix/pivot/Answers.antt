@@ -5,7 +5,7 @@ use Rattle.linear_algebra.specs.Vectors.{IsMatrix, row_at}
 use Rattle.linear_algebra.specs.Echelon.{IsReducedBelow, IsReduced, rank_of}
 use Rattle.field_matrix.specs.Rows.{cut, Rows}
 use Rattle.field_matrix.proofs.Cut.{cut-matrix, length-cut}
-use Rattle.field_matrix.proofs.Places.{row_long}
+use Rattle.field_matrix.proofs.Splits.{row_long}
 use Rattle.field_matrix.proofs.Ranks.{pivot_place, reduced_rank}
 use Rattle.field_matrix.proofs.matrix.Matrix.pivot.Goals as goal
 

@@ -5,7 +5,7 @@ use Rattle.linear_algebra.specs.Vectors.{IsMatrix, IsBasis, row_at}
 use Rattle.linear_algebra.specs.Echelon.{IsReducedBelow, IsReduced, is_nonzero, rank_of}
 use Rattle.field_matrix.specs.Rows.{cut, Rows}
 use Rattle.field_matrix.proofs.Cut.{cut-matrix, length-cut}
-use Rattle.field_matrix.proofs.Places.{row_long}
+use Rattle.field_matrix.proofs.Splits.{row_long}
 use Rattle.field_matrix.proofs.Ranks.{told_by_first, rank_more, reduced_rank, rank_is_dimension}
 use Rattle.field_matrix.proofs.matrix.Matrix.rank.Goals as goal
 use Rattle.field_matrix.proofs.matrix.Matrix.rank.Goals.{then-is_some, else-is_some}

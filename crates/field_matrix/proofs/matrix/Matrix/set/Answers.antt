@@ -4,7 +4,7 @@ use Rattle.linear_algebra.specs.Vectors.{AreElements, IsVector, IsMatrix, row_at
 use Rattle.linear_algebra.proofs.Span.{all_set, all_at}
 use Rattle.field_matrix.specs.Rows.{cut, IsFilled}
 use Rattle.field_matrix.proofs.Cut.{cut-matrix, cut-elements}
-use Rattle.field_matrix.proofs.Places.{row_vector}
+use Rattle.field_matrix.proofs.Splits.{row_vector}
 use Rattle.field_matrix.proofs.Views.{row_within}
 use Rattle.field_matrix.proofs.matrix.Matrix.set.Goals as goal
 

@@ -37,6 +37,12 @@ above_low s p ps h = rw (below_is p s h) refl
 pub above_high : (s p : ℕ) (ps : List ℕ) → s ≤ p → above s (p ∷ ps) ≡ (p - s) ∷ above s ps
 above_high s p ps h = rw (from_is p s h) refl
 
+pub above_few : (s : ℕ) (ps : List ℕ) → length (above s ps) ≤ length ps
+above_few s [] = omega arith
+above_few s (p ∷ ps) =
+    let r : length (above s ps) ≤ length ps = above_few s ps in
+    elim (dec_lt p s) [ yes l ↦ omega (arith, ap length (above_low s p ps l)) | no m ↦ omega (arith, ap length (above_high s p ps (omega arith))) ]
+
 -- where the numbers from s on begin
 pub record Above (s : ℕ) (ps : List ℕ) : Type 0 where
   pub from : ℕ
