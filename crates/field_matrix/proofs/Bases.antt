@@ -1,4 +1,4 @@
-use Rattle.std.proofs.Common.{◌≡◌, ◌≢◌, ℕ, zero, suc, ◌+◌, ◌-◌, ◌<◌, ◌≤◌, List, [], ◌∷◌, ◌++◌, length, length-append, length-drop, map, take, drop, replicate, get_or, All, refl, ap, sym, ◌∙◌, arith, subst}
+use Rattle.std.proofs.Common.{◌≡◌, ℕ, zero, suc, ◌+◌, ◌-◌, ◌<◌, ◌≤◌, List, [], ◌∷◌, ◌++◌, length, length-append, length-drop, map, take, drop, replicate, get_or, refl, ap, sym, ◌∙◌, arith, subst}
 use Rattle.std.specs.List.{AllByRecursion}
 use Rattle.std.specs.List.Sorted.{IsStrictlyIncreasing}
 use Rattle.std.proofs.lemmas.Simd.{length-replicate, get_or-replicate}
@@ -8,9 +8,9 @@ use native.Mathlib.Decide.{dec_lt}
 use Prim.{yes, no}
 use Rattle.small_field.specs.Field.{Ops, IsField}
 use Rattle.linear_algebra.specs.Marks.{mark}
-use Rattle.linear_algebra.specs.Vectors.{AreElements, dot, column, IsVector, IsMatrix, IsBasis, InSpan, SameSpan, IsIndependent, plus_scaled, combination, row_at}
-use Rattle.linear_algebra.specs.Echelon.{IsReducedTo, IsReducedBelow}
-use Rattle.linear_algebra.proofs.Dot.{zero_below, neg_zero, neg_mul, neg_unique, dot_zeros, dot_comm, dot_below, dot_added}
+use Rattle.linear_algebra.specs.Vectors.{dot, column, IsVector, IsMatrix, IsBasis, InSpan, IsIndependent, plus_scaled, combination, row_at}
+use Rattle.linear_algebra.specs.Echelon.{IsReducedTo}
+use Rattle.linear_algebra.proofs.Dot.{neg_zero, neg_mul, neg_unique, dot_zeros, dot_comm, dot_below, dot_added}
 use Rattle.linear_algebra.proofs.Decide.{neg_neg}
 use Rattle.linear_algebra.proofs.Span.{combination-vector, combination-plus, combination-zeros, plus_scaled-vector, zeros-elements, one_times, taken_back, span_rows, span_plus, span_zero, all_at, same_span, list_below}
 use Rattle.linear_algebra.proofs.Dimension.{combination_twice}
@@ -38,9 +38,9 @@ covered P s sub rows [] long a h = tt
 covered P s sub rows (q ∷ qs) long a h =
     elim (dec_lt q s) [
       | yes l ↦ (
-          subst P (sym (get_or_append_left sub rows [] q (omega arith))) (at_place P sub q a (omega arith)),
-          covered P s sub rows qs long a (subst (λ (w : List ℕ). AllByRecursion P (rows_at rows w)) (above_low s q qs l) h),
-        )
+        subst P (sym (get_or_append_left sub rows [] q (omega arith))) (at_place P sub q a (omega arith)),
+        covered P s sub rows qs long a (subst (λ (w : List ℕ). AllByRecursion P (rows_at rows w)) (above_low s q qs l) h),
+      )
       | no n ↦
           let t : AllByRecursion P (rows_at rows ((q - s) ∷ above s qs)) = subst (λ (w : List ℕ). AllByRecursion P (rows_at rows w)) (above_high s q qs (omega arith)) h in (
             subst P (sym (get_or-append_right sub rows s q [] long (omega arith))) t.0,
@@ -170,7 +170,6 @@ module _ (k : Ops) (f : IsField k) where
 
     -- each basis of the others and the chosen rows together
     module _ (bs : List (List ℕ)) (b : IsBasis k m sub bs) where
-
       together_matrix : IsMatrix k m (bs ++ rows_at rows places)
       together_matrix = all_append (IsVector k m) bs (rows_at rows places) b.matrix chosen_matrix
 

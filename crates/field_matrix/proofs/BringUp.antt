@@ -1,4 +1,4 @@
-use Rattle.std.proofs.Common.{◌≡◌, ◌≢◌, ℕ, ◌<◌, ◌≤◌, List, [], length, length-set, map, get_or, get_or-set_same, get_or-set_other, set, ap, sym, ◌∙◌, arith, subst, inl, inr}
+use Rattle.std.proofs.Common.{◌≡◌, ◌≢◌, ℕ, ◌<◌, List, [], length, length-set, map, get_or, get_or-set_same, get_or-set_other, set, ap, sym, ◌∙◌, arith, subst, inl, inr}
 use Rattle.std.proofs.lemmas.Simd.{get_or-zip2}
 use Rattle.small_field.specs.Field.{Ops, IsField}
 use Rattle.linear_algebra.specs.Vectors.{IsVector, IsMatrix, plus_scaled, SameSpan, row_at, entry}

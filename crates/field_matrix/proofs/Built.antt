@@ -1,16 +1,13 @@
-use Rattle.std.proofs.Common.{◌≡◌, ◌≢◌, ℕ, zero, suc, ◌+◌, ◌-◌, ◌*◌, ◌<◌, ◌≤◌, ◌==◌, if◌then◌else◌, List, [], ◌∷◌, ◌++◌, length, length-append, length-drop, map, take, drop, replicate, get_or, get_or-set_same, get_or-set_other, append_assoc, refl, ap, sym, ◌∙◌, arith, subst, inl, inr}
-use Rattle.std.proofs.lemmas.List.{take-append-le, drop-append-le, take_all, take_more, get_or-drop, length-map}
+use Rattle.std.proofs.Common.{◌≡◌, ◌≢◌, ℕ, zero, suc, ◌+◌, ◌*◌, ◌<◌, ◌≤◌, ◌==◌, if◌then◌else◌, List, [], ◌∷◌, ◌++◌, length, length-append, length-drop, take, drop, replicate, get_or, get_or-set_same, get_or-set_other, append_assoc, ap, sym, ◌∙◌, arith, inl, inr}
+use Rattle.std.proofs.lemmas.List.{take-append-le, drop-append-le, take_all, take_more, get_or-drop}
 use Rattle.std.proofs.lemmas.Simd.{length-replicate, get_or-replicate}
 use Rattle.std.proofs.lemmas.Bool.Decides.{nat_tests}
-use native.Mathlib.Decide.{dec_lt}
-use Prim.{yes, no}
 use Rattle.linear_algebra.specs.Marks.{mark, identity, beside, rights}
 use Rattle.linear_algebra.specs.Vectors.{row_at}
 use Rattle.linear_algebra.proofs.Marks.{length-mark, length-identity, identity_row, length-beside, beside_row}
 use Rattle.linear_algebra.proofs.Halves.{row_at-map}
 use Rattle.linear_algebra.proofs.Scaled.{same_or_not}
 use Rattle.field_matrix.specs.Rows.{cut}
-use Rattle.field_matrix.proofs.Cut.{length-cut}
 
 same_is : (a b : ℕ) → a ≡ b → ◌≡◌ {A = ℕ} (if a == b then 1 else 0) 1
 same_is a b h = grind (arith, nat_tests)
@@ -47,9 +44,9 @@ cut-pushed (suc t) c xs row lx lr =
 -- one more row of a list
 pub rows_more : (t c : ℕ) (xs row : List ℕ) (rows : List (List ℕ)) → length xs ≡ t * c → length row ≡ c → t < length rows → row ≡ row_at rows t → cut t c xs ≡ take t rows → (length (xs ++ row) ≡ (t + 1) * c) × (cut (t + 1) c (xs ++ row) ≡ take (t + 1) rows)
 rows_more t c xs row rows lx lr lt is old = (
-    length-append xs row ∙ omega arith,
-    ap (λ (n : ℕ). cut n c (xs ++ row)) (let e : t + 1 ≡ suc t = omega arith in e) ∙ (cut-pushed t c xs row lx lr ∙ (ap (λ (rs : List (List ℕ)). rs ++ row ∷ []) old ∙ (ap (λ (r : List ℕ). take t rows ++ r ∷ []) is ∙ sym (take_more rows t [] lt)))),
-  )
+  length-append xs row ∙ omega arith,
+  ap (λ (n : ℕ). cut n c (xs ++ row)) (let e : t + 1 ≡ suc t = omega arith in e) ∙ (cut-pushed t c xs row lx lr ∙ (ap (λ (rs : List (List ℕ)). rs ++ row ∷ []) old ∙ (ap (λ (r : List ℕ). take t rows ++ r ∷ []) is ∙ sym (take_more rows t [] lt)))),
+)
 
 pub joined_row : (n c i : ℕ) (rows : List (List ℕ)) → length rows ≡ n → i < n → row_at (beside rows (identity n)) i ≡ row_at rows i ++ mark n i
 joined_row n c i rows long lt = beside_row rows (identity n) i (long ∙ sym (length-identity n)) (omega arith) ∙ ap (λ (w : List ℕ). row_at rows i ++ w) (identity_row n i lt)

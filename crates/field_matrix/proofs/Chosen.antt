@@ -1,29 +1,26 @@
-use Rattle.std.proofs.Common.{◌≡◌, ◌≢◌, ℕ, zero, suc, ◌+◌, ◌-◌, ◌<◌, ◌≤◌, Bool, true, false, nat_lt, List, [], ◌∷◌, ◌++◌, length, length-append, map, take, drop, replicate, get_or, All, refl, ap, sym, ◌∙◌, arith, subst, inl, inr}
+use Rattle.std.proofs.Common.{◌≡◌, ◌≢◌, ℕ, zero, suc, ◌+◌, ◌-◌, ◌<◌, ◌≤◌, true, false, nat_lt, List, [], ◌∷◌, ◌++◌, length, map, take, drop, replicate, get_or, refl, ap, sym, ◌∙◌, arith, subst}
 use Rattle.std.specs.List.{AllByRecursion}
-use Rattle.std.specs.List.Sorted.{IsStrictlyIncreasing}
 use Rattle.std.proofs.lemmas.Simd.{length-replicate, get_or-replicate}
-use Rattle.std.proofs.lemmas.List.{length-map, length-take-le, take-append-drop, get_or-take, get_or-drop, get_or-map, get_or_append_left, get_or-append_right, get_or_default, ext_get_or, take_at}
-use Rattle.std.proofs.lemmas.List.Elements.{recursion_from_All, All-from_recursion}
+use Rattle.std.proofs.lemmas.List.{length-map, length-take-le, get_or-take, get_or-map, get_or_default, ext_get_or}
+use Rattle.std.proofs.lemmas.List.Elements.{recursion_from_All}
 use Rattle.std.proofs.lemmas.Bool.Decides.{nat_tests}
 use native.Mathlib.Decide.{dec_lt}
 use Prim.{yes, no}
 use Rattle.small_field.specs.Field.{Ops, IsField}
 use Rattle.linear_algebra.specs.Marks.{mark}
-use Rattle.linear_algebra.specs.Vectors.{AreElements, dot, column, boundary, IsVector, IsMatrix, IsBasis, InSpan, SameSpan, IsIndependent, plus_scaled, combination, row_at, entry}
+use Rattle.linear_algebra.specs.Vectors.{AreElements, dot, column, boundary, IsVector, IsMatrix, InSpan, plus_scaled, combination, row_at}
 use Rattle.linear_algebra.specs.Echelon.{IsReducedTo, IsReducedBelow}
-use Rattle.linear_algebra.proofs.Dot.{zero_below, mul_zero, zero_mul, dot_zeros, dot_comm, dot_below, dot_added, neg_unique, neg_mul}
-use Rattle.linear_algebra.proofs.Span.{combination-vector, combination-plus, combination-zeros, plus_scaled-vector, zeros-elements, zero_times, one_times, taken_back, span_rows, span_within, all_at, same_span, list_below}
-use Rattle.linear_algebra.proofs.Scaled.{same_or_not}
-use Rattle.linear_algebra.proofs.Decide.{entry_combination, zeros_of_dots, neg_neg, neg_of_sum}
+use Rattle.linear_algebra.proofs.Dot.{dot_zeros, dot_comm, dot_added, neg_unique, neg_mul}
+use Rattle.linear_algebra.proofs.Span.{combination-vector, combination-plus, plus_scaled-vector, span_rows, all_at, list_below}
+use Rattle.linear_algebra.proofs.Decide.{entry_combination, zeros_of_dots, neg_neg}
 use Rattle.linear_algebra.proofs.Dimension.{combination_twice}
 use Rattle.linear_algebra.proofs.Adjoint.{adjoint}
 use Rattle.linear_algebra.proofs.Bump.{column_entry}
 use Rattle.linear_algebra.proofs.Solve.{column_below}
-use Rattle.linear_algebra.proofs.Betti.{all_append, all_take, all_weaker, in_span_trans, combination-append, dot_unit, dot_all_zero, length-column}
-use Rattle.linear_algebra.proofs.Marks.{length-mark, mark_vector, combination-mark, dot_mark, dot-append}
-use Rattle.linear_algebra.proofs.Halves.{row_at-map, drop_at}
+use Rattle.linear_algebra.proofs.Betti.{all_take, all_weaker, dot_unit, length-column}
+use Rattle.linear_algebra.proofs.Marks.{mark_vector, combination-mark, dot_mark}
 use Rattle.linear_algebra.proofs.Triangles.{dot_of_none}
-use Rattle.field_matrix.specs.Solutions.{above, rows_at, IsComplement}
+use Rattle.field_matrix.specs.Solutions.{above, rows_at}
 
 below_is : (p s : ℕ) → p < s → nat_lt p s ≡ true
 below_is p s h = grind (arith, nat_tests)

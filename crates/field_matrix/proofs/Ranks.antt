@@ -1,5 +1,5 @@
-use Rattle.std.proofs.Common.{◌≡◌, ◌≢◌, ℕ, zero, suc, ◌+◌, ◌<◌, ◌≤◌, ◌⊎◌, inl, inr, List, [], ◌∷◌, length, replicate, take, get_or, true, false, cond, not, ◌==◌, is_some, Option, Some, None, refl, ap, sym, ◌∙◌, arith, subst}
-use Rattle.std.specs.List.{sum_by, AllByRecursion}
+use Rattle.std.proofs.Common.{◌≡◌, ◌≢◌, ℕ, zero, suc, ◌+◌, ◌<◌, ◌≤◌, ◌⊎◌, inl, inr, List, [], ◌∷◌, length, take, get_or, true, false, cond, is_some, Some, refl, ap, sym, ◌∙◌, arith, subst}
+use Rattle.std.specs.List.{AllByRecursion}
 use Rattle.std.proofs.lemmas.List.Sums.{sum_by-cons, sum_by_more}
 use Rattle.std.proofs.lemmas.List.{take_all, length-take-le, get_or-take}
 use Rattle.std.proofs.lemmas.Bool.Decides.{nat_tests}
@@ -8,7 +8,7 @@ use Prim.{yes, no}
 use Rattle.lane_rows.specs.Lanes.{first_place}
 use Rattle.lane_rows.proofs.Loops.{place_found, place_missing}
 use Rattle.small_field.specs.Field.{Ops, IsField}
-use Rattle.linear_algebra.specs.Vectors.{IsVector, IsMatrix, IsBasis, InSpan, row_at, entry}
+use Rattle.linear_algebra.specs.Vectors.{IsVector, IsMatrix, IsBasis, InSpan, row_at}
 use Rattle.linear_algebra.specs.Echelon.{IsReducedBelow, IsReducedTo, IsReduced, is_nonzero, rank_of}
 use Rattle.linear_algebra.proofs.Span.{all_at, span_rows}
 use Rattle.linear_algebra.proofs.Scaled.{one_is_not_zero}

@@ -1,14 +1,13 @@
-use Rattle.std.proofs.Common.{◌≡◌, ◌≢◌, ℕ, zero, suc, ◌+◌, ◌-◌, ◌<◌, ◌≤◌, List, [], ◌∷◌, ◌++◌, length, length-append, get_or, refl, ap, sym, ◌∙◌, arith, subst, ◌⊎◌, inl, inr}
+use Rattle.std.proofs.Common.{◌≡◌, ◌≢◌, ℕ, ◌+◌, ◌<◌, ◌≤◌, List, [], ◌∷◌, ◌++◌, length, length-append, get_or, refl, ap, sym, ◌∙◌, arith, subst}
 use Rattle.std.proofs.lemmas.List.{get_or_append_left}
 use Rattle.std.proofs.Math.Seq.{get_or-append_seam}
 use native.Mathlib.Decide.{dec_lt}
 use Prim.{yes, no}
 use Rattle.small_field.specs.Field.{Ops, IsField}
-use Rattle.linear_algebra.specs.Vectors.{IsMatrix, SameSpan, row_at, entry}
+use Rattle.linear_algebra.specs.Vectors.{IsMatrix, entry}
 use Rattle.linear_algebra.specs.Echelon.{IsReducedTo, IsReducedBelow}
 use Rattle.linear_algebra.proofs.Span.{same_span_trans}
-use Rattle.linear_algebra.proofs.Scaled.{same_or_not}
-use Rattle.field_matrix.specs.Steps.{IsBroughtUp, IsCleared, IsPivotRow, ZeroBelow}
+use Rattle.field_matrix.specs.Steps.{IsBroughtUp, IsCleared, IsPivotRow}
 
 module _ (k : Ops) (f : IsField k) where
   pub reduced_start : (cols : ℕ) (rows : List (List ℕ)) → IsMatrix k cols rows → IsReducedTo k cols 0 0 rows rows

@@ -1,4 +1,4 @@
-use Rattle.std.proofs.Common.{◌≡◌, ◌≢◌, ℕ, zero, suc, ◌+◌, ◌<◌, List, [], ◌∷◌, ◌++◌, length, length-append, map, take, drop, replicate, get_or, true, false, refl, ap, sym, ◌∙◌, arith, subst}
+use Rattle.std.proofs.Common.{◌≡◌, ℕ, zero, suc, ◌+◌, ◌<◌, List, [], ◌∷◌, ◌++◌, length, length-append, map, take, drop, replicate, get_or, true, false, refl, ap, sym, ◌∙◌, arith, subst}
 use Rattle.std.proofs.lemmas.Simd.{length-replicate}
 use Rattle.std.proofs.lemmas.List.{length-map, take_at, get_or-take}
 use Rattle.std.proofs.lemmas.Bool.Decides.{nat_tests}
@@ -11,7 +11,7 @@ use Rattle.linear_algebra.proofs.Decide.{neg_neg}
 use Rattle.linear_algebra.proofs.Span.{combination-vector, one_times, span_plus, zeros-elements, plus_scaled-long}
 use Rattle.linear_algebra.proofs.Scaled.{span_scaled}
 use Rattle.linear_algebra.proofs.Betti.{zero_at_pivots, all_append}
-use Rattle.linear_algebra.proofs.Halves.{drop_at, take-plus_scaled, drop-plus_scaled, left_vector, right_vector}
+use Rattle.linear_algebra.proofs.Halves.{drop_at, take-plus_scaled, drop-plus_scaled, left_vector}
 use Rattle.linear_algebra.proofs.History.{told_by_right, left_reduced, left_pivots}
 use Rattle.field_matrix.specs.Steps.{IsReducedBy, IsSwept, IsClearAt}
 use Rattle.field_matrix.proofs.Sweep.{place_is}

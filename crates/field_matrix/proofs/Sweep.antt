@@ -1,15 +1,15 @@
-use Rattle.std.proofs.Common.{◌≡◌, ◌≢◌, ℕ, ◌+◌, ◌<◌, ◌≤◌, List, [], length, take, replicate, get_or, Some, refl, ap, sym, ◌∙◌, arith, subst, inl, inr}
+use Rattle.std.proofs.Common.{◌≡◌, ℕ, ◌+◌, ◌<◌, ◌≤◌, List, [], length, take, replicate, get_or, Some, ap, sym, ◌∙◌, arith, subst, inl, inr}
 use Rattle.std.proofs.lemmas.Simd.{get_or-zip2}
 use Rattle.lane_rows.specs.Lanes.{first_place}
 use Rattle.small_field.specs.Field.{Ops, IsField}
-use Rattle.linear_algebra.specs.Vectors.{IsVector, IsMatrix, InSpan, plus_scaled, row_at, entry}
+use Rattle.linear_algebra.specs.Vectors.{IsVector, IsMatrix, InSpan, plus_scaled, row_at}
 use Rattle.linear_algebra.specs.Echelon.{IsReducedBelow}
 use Rattle.linear_algebra.proofs.Dot.{zero_below, mul_zero}
 use Rattle.linear_algebra.proofs.Span.{all_at, plus_scaled-vector, span_zero, span_plus, span_rows, combination-vector}
 use Rattle.linear_algebra.proofs.Scaled.{same_or_not}
 use Rattle.linear_algebra.proofs.Betti.{regroup, plus_zeros}
 use Rattle.field_matrix.specs.Steps.{IsReducedBy, IsSwept, IsClearAt}
-use Rattle.field_matrix.proofs.Ranks.{First, first_is, pivot_first_in}
+use Rattle.field_matrix.proofs.Ranks.{first_is, pivot_first_in}
 
 some_same : (a b : ℕ) → Some a ≡ Some b → a ≡ b
 some_same a b e = cc

@@ -1,4 +1,4 @@
-use Rattle.std.proofs.Common.{◌≡◌, ◌≢◌, ℕ, suc, ◌+◌, ◌-◌, ◌*◌, ◌<◌, ◌≤◌, Bool, true, false, List, [], ◌∷◌, ◌++◌, length, length-append, length-drop, take, drop, get_or, Some, append_assoc, append-nil, refl, ap, sym, ◌∙◌, arith, subst, inl, inr}
+use Rattle.std.proofs.Common.{◌≡◌, ℕ, suc, ◌+◌, ◌-◌, ◌*◌, ◌<◌, ◌≤◌, true, false, List, [], ◌∷◌, ◌++◌, length, length-append, length-drop, take, drop, get_or, Some, append_assoc, append-nil, refl, ap, sym, ◌∙◌, arith, subst}
 use Rattle.std.proofs.lemmas.List.{take_more, get_or-take, get_or-drop, get_or_append_left, get_or_default, length-take-le}
 use Rattle.std.proofs.Math.Seq.{get_or-append_seam}
 use native.Mathlib.Decide.{dec_lt}
@@ -10,7 +10,7 @@ use Rattle.linear_algebra.specs.Vectors.{IsVector, IsMatrix, column, row_at}
 use Rattle.linear_algebra.proofs.Betti.{all_append, length-column}
 use Rattle.linear_algebra.proofs.Solve.{column_below}
 use Rattle.linear_algebra.specs.Echelon.{IsReducedBelow, is_nonzero}
-use Rattle.linear_algebra.proofs.Scaled.{same_or_not, one_is_not_zero}
+use Rattle.linear_algebra.proofs.Scaled.{one_is_not_zero}
 use Rattle.field_matrix.specs.Rows.{cut}
 use Rattle.field_matrix.specs.Solutions.{above}
 use Rattle.field_matrix.proofs.Cut.{length-cut}

@@ -1,4 +1,4 @@
-use Rattle.std.proofs.Common.{◌≡◌, ℕ, zero, suc, ◌+◌, ◌*◌, ◌<◌, List, [], ◌∷◌, ◌++◌, length, replicate, take, drop, refl, ap, sym, ◌∙◌, arith, subst}
+use Rattle.std.proofs.Common.{◌≡◌, ℕ, zero, suc, ◌+◌, ◌*◌, ◌<◌, List, ◌∷◌, ◌++◌, length, replicate, take, drop, refl, ap, sym, ◌∙◌, arith, subst}
 use Rattle.std.proofs.lemmas.List.{take_at}
 use Rattle.std.proofs.Math.Seq.{drop-append_seam}
 use Rattle.std.proofs.lemmas.Simd.{length-replicate}
@@ -8,7 +8,7 @@ use Rattle.linear_algebra.proofs.Span.{row_entry_below}
 use Rattle.field_matrix.specs.Rows.{cut, Rows, IsFilled}
 use Rattle.field_matrix.proofs.Cut.{length-cut, cut-matrix}
 
-module _ (n c : ℕ) (xs : List ℕ) (v : Rows) (is : record {cols = c; rows = cut n c xs} ≡ v) where
+module _ (n c : ℕ) (xs : List ℕ) (v : Rows) (is : record { cols = c; rows = cut n c xs } ≡ v) where
   pub row_within : (row : ℕ) → row < length v.rows → row < n
   row_within row lt = let l : row < length (cut n c xs) = subst (λ (w : Rows). row < length w.rows) (sym is) lt in omega (arith, length-cut n c xs)
 

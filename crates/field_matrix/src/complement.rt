@@ -7,7 +7,7 @@ ghost use Rattle.field_matrix.specs.Rows.{cut, IsFilled};
 ghost use Rattle.field_matrix.specs.Steps.{IsReducedBy};
 ghost use Rattle.field_matrix.specs.Solutions.{above, IsComplement};
 
-use crate::flat::{entry_of, row_of, Shape};
+use crate::flat::{Shape, entry_of, row_of};
 use crate::joined::reduce_uncounted;
 use crate::matrix::Matrix;
 use crate::places::Places;

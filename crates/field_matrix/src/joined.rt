@@ -7,7 +7,7 @@ ghost use Rattle.linear_algebra.specs.Marks.{mark, identity, beside, rights};
 ghost use Rattle.field_matrix.specs.Rows.{cut};
 ghost use Rattle.field_matrix.specs.Steps.{IsReducedBy, IsSwept, IsClearAt};
 
-use crate::flat::{row_of, Shape};
+use crate::flat::{Shape, row_of};
 use crate::reduce::reduce_rows;
 use hap_outside::Steps;
 use small_field::Field;
@@ -23,7 +23,12 @@ fn indicator(at: usize, place: usize) -> u8
 }
 
 /// Appends a row, and after it `count` numbers: a 1 at the place and 0 elsewhere.
-fn push_beside(joined: &mut Vec<u8>, row: &[u8], place: usize, count: usize) -> Result<(), AllocError>
+fn push_beside(
+    joined: &mut Vec<u8>,
+    row: &[u8],
+    place: usize,
+    count: usize,
+) -> Result<(), AllocError>
     ensures { IfOk result (λ _. joined.new.items ≡ joined.old.items ++ (row.now ++ mark count place)) }
 {
     joined.extend_from_slice(row)?;
@@ -111,7 +116,13 @@ pub fn sweep<F: Field>(joined: &[u8], shape: Shape, width: usize, rank: usize, r
 }
 
 /// What stands right of the first `width` columns in the rows from `from` on.
-pub fn right_halves(alloc: Global, joined: &[u8], shape: Shape, width: usize, from: usize) -> Result<Vec<u8>, AllocError>
+pub fn right_halves(
+    alloc: Global,
+    joined: &[u8],
+    shape: Shape,
+    width: usize,
+    from: usize,
+) -> Result<Vec<u8>, AllocError>
     requires shape { length joined.now ≡ shape.rows * shape.cols }
     requires width { width ≤ shape.cols }
     requires from { from ≤ shape.rows }

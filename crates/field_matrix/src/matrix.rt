@@ -6,7 +6,7 @@ ghost use Rattle.linear_algebra.specs.Vectors.{AreElements, IsMatrix, IsBasis, r
 ghost use Rattle.linear_algebra.specs.Echelon.{IsReducedBelow, IsReducedTo, IsReduced, rank_of};
 ghost use Rattle.field_matrix.specs.Rows.{cut, IsFilled};
 
-use crate::flat::{entry_of, row_of, set_entry, Shape};
+use crate::flat::{Shape, entry_of, row_of, set_entry};
 use crate::reduce::reduce_rows;
 use hap_outside::Steps;
 use small_field::Field;

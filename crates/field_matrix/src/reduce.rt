@@ -6,7 +6,7 @@ ghost use Rattle.linear_algebra.specs.Echelon.{IsReducedTo};
 ghost use Rattle.field_matrix.specs.Rows.{cut};
 ghost use Rattle.field_matrix.specs.Steps.{IsCleared, IsPivotRow, IsBroughtUp, ZeroBelow};
 
-use crate::flat::{combine_rows, entry_of, scale_row, Shape};
+use crate::flat::{Shape, combine_rows, entry_of, scale_row};
 use hap_outside::Steps;
 use small_field::Field;
 use std::sync::ledger::Ledger;

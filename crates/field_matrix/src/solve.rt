@@ -23,7 +23,11 @@ struct History {
 }
 
 /// Reduces the rows with those of the identity beside them.
-fn reduce_beside<F: Field>(alloc: Global, entries: &[u8], shape: Shape) -> Result<History, AllocError>
+fn reduce_beside<F: Field>(
+    alloc: Global,
+    entries: &[u8],
+    shape: Shape,
+) -> Result<History, AllocError>
     requires shape { IsFilled F.ops shape.rows shape.cols entries.now }
     requires few_rows { shape.rows < 2 ^ 32 }
     requires few_cols { shape.cols < 2 ^ 32 }
@@ -40,7 +44,12 @@ fn reduce_beside<F: Field>(alloc: Global, entries: &[u8], shape: Shape) -> Resul
 }
 
 /// The right side, as far as the rows do not reach it, and after it the coefficients.
-fn swept<F: Field>(alloc: Global, history: &History, shape: Shape, rhs: &[u8]) -> Result<Vec<u8>, AllocError>
+fn swept<F: Field>(
+    alloc: Global,
+    history: &History,
+    shape: Shape,
+    rhs: &[u8],
+) -> Result<Vec<u8>, AllocError>
     requires long { length history.now.joined.items ≡ shape.rows * (shape.cols + shape.rows) }
     requires few_rows { shape.rows < 2 ^ 32 }
     requires few_cols { shape.cols < 2 ^ 32 }

@@ -1,10 +1,10 @@
-use Rattle.std.proofs.Common.{◌≡◌, ◌≢◌, ℕ, zero, suc, ◌+◌, ◌<◌, ◌≤◌, ◌⊎◌, inl, inr, List, [], ◌∷◌, ◌++◌, length, map, take, drop, replicate, get_or, length-drop, refl, ap, sym, ◌∙◌, arith, subst}
+use Rattle.std.proofs.Common.{◌≡◌, ℕ, zero, suc, ◌+◌, ◌<◌, ◌≤◌, ◌⊎◌, inl, inr, List, [], ◌∷◌, ◌++◌, length, map, take, drop, replicate, length-drop, refl, ap, sym, ◌∙◌, arith, subst}
 use Rattle.std.specs.List.{AllByRecursion}
-use Rattle.std.proofs.lemmas.List.{length-map, length-take-le, get_or-take, take_at}
+use Rattle.std.proofs.lemmas.List.{length-take-le}
 use Rattle.std.proofs.Math.Seq.{drop-append_seam}
 use Rattle.small_field.specs.Field.{Ops, IsField}
 use Rattle.linear_algebra.specs.Marks.{lefts, rights}
-use Rattle.linear_algebra.specs.Vectors.{IsVector, IsMatrix, plus_scaled, combination, InSpan, IsIndependent, row_at, entry}
+use Rattle.linear_algebra.specs.Vectors.{IsVector, IsMatrix, plus_scaled, combination, InSpan, IsIndependent, row_at}
 use Rattle.linear_algebra.proofs.Span.{combination-vector, span_rows, span_all_more, zeros_plus}
 use Rattle.linear_algebra.proofs.Dimension.{in_span_or_not, no_more}
 use Rattle.linear_algebra.proofs.Betti.{all_take, all_drop, all_weaker, in_span_trans}

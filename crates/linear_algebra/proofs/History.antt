@@ -1,16 +1,16 @@
-use Rattle.std.proofs.Common.{◌≡◌, ◌≢◌, ℕ, zero, suc, ◌+◌, ◌-◌, ◌<◌, ◌≤◌, List, [], ◌∷◌, ◌++◌, length, length-append, length-drop, map, take, drop, replicate, get_or, refl, ap, sym, ◌∙◌, arith, subst}
+use Rattle.std.proofs.Common.{◌≡◌, ℕ, ◌+◌, ◌-◌, ◌<◌, ◌≤◌, List, [], ◌++◌, length, length-append, length-drop, take, drop, replicate, get_or, refl, ap, sym, ◌∙◌, arith, subst}
 use Rattle.std.specs.List.{AllByRecursion}
 use Rattle.std.proofs.lemmas.Simd.{length-replicate, get_or-replicate}
 use Rattle.std.proofs.lemmas.List.{length-map, length-take-le, take-append-drop, take_at, get_or-take, get_or-drop, drop-map, get_or_default, ext_get_or}
 use Rattle.std.proofs.lemmas.List.Elements.{recursion_from_All}
 use Rattle.small_field.specs.Field.{Ops, IsField}
 use Rattle.linear_algebra.specs.Marks.{identity, beside, lefts, rights}
-use Rattle.linear_algebra.specs.Vectors.{AreElements, IsVector, IsMatrix, plus_scaled, combination, InSpan, SameSpan, IsIndependent, IsInKernel, IsKernelBasis, row_at, entry}
+use Rattle.linear_algebra.specs.Vectors.{IsVector, IsMatrix, plus_scaled, combination, InSpan, SameSpan, IsIndependent, IsInKernel, IsKernelBasis, row_at, entry}
 use Rattle.linear_algebra.specs.Echelon.{IsReducedTo, IsReducedBelow}
 use Rattle.linear_algebra.proofs.Span.{combination-vector, combination-zeros, zeros-elements, one_times, span_rows, all_at}
-use Rattle.linear_algebra.proofs.Betti.{all_append, all_take, all_drop, all_weaker, combination-append, plus_zeros, pivots_independent, long_pivots, few}
+use Rattle.linear_algebra.proofs.Betti.{all_append, all_take, all_drop, all_weaker, combination-append, plus_zeros, pivots_independent}
 use Rattle.linear_algebra.proofs.Marks.{length-identity, identity_matrix, combination-identity, length-beside, beside_matrix, combination-beside, zeros_append}
-use Rattle.linear_algebra.proofs.Halves.{drop_at, drop_zeros, row_at-map, take-combination, drop-combination, left_vector, right_vector, left_matrix, right_matrix, combination_of_zeros, as_few_are_independent}
+use Rattle.linear_algebra.proofs.Halves.{drop_at, drop_zeros, row_at-map, take-combination, drop-combination, left_vector, left_matrix, right_matrix, combination_of_zeros, as_few_are_independent}
 
 -- rows with the identity beside them, reduced on the left
 module _ (k : Ops) (f : IsField k) (m n r : ℕ) (rows after : List (List ℕ)) (a : IsMatrix k m rows) (long : length rows ≡ n) (h : IsReducedTo k (m + n) r m (beside rows (identity n)) after) where

@@ -1,12 +1,9 @@
-use Rattle.std.proofs.Common.{◌≡◌, ◌≢◌, ℕ, zero, suc, ◌+◌, ◌<◌, ◌≤◌, List, [], ◌∷◌, ◌++◌, length, length-append, length-set, map, take, drop, replicate, get_or, set, refl, ap, sym, ◌∙◌, arith, subst}
-use Rattle.std.specs.List.{AllByRecursion}
+use Rattle.std.proofs.Common.{◌≡◌, ℕ, zero, suc, ◌+◌, ◌<◌, List, [], ◌∷◌, ◌++◌, length, length-append, length-set, replicate, get_or, refl, ap, sym, ◌∙◌, arith}
 use Rattle.std.proofs.lemmas.Simd.{length-replicate}
-use Rattle.std.proofs.lemmas.List.{take_at, get_or_append_left}
-use Rattle.std.proofs.Math.Seq.{drop-append_seam}
 use Rattle.small_field.specs.Field.{Ops, IsField}
 use Rattle.linear_algebra.specs.Marks.{mark, shifted, identity, beside}
-use Rattle.linear_algebra.specs.Vectors.{AreElements, dot, column, IsVector, IsMatrix, plus_scaled, combination, InSpan, SameSpan, row_at}
-use Rattle.linear_algebra.proofs.Dot.{zero_below, add_zero, mul_zero, zero_mul, dot_zeros, dot_comm, dot_below}
+use Rattle.linear_algebra.specs.Vectors.{dot, IsVector, IsMatrix, plus_scaled, combination, row_at}
+use Rattle.linear_algebra.proofs.Dot.{add_zero, mul_zero, zero_mul, dot_zeros, dot_comm, dot_below}
 use Rattle.linear_algebra.proofs.Span.{combination-vector, combination-zeros, zeros-elements, one_times, zero_times, all_set}
 use Rattle.linear_algebra.proofs.Betti.{all_append}
 use Rattle.linear_algebra.proofs.RankSplit.{length-shifted, shifted_matrix, combination-shifted}

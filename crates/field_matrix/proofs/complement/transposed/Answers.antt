@@ -1,4 +1,4 @@
-use Rattle.std.proofs.Common.{◌≡◌, ℕ, ◌+◌, ◌*◌, ◌<◌, ◌++◌, List, length, length-append, append_assoc, ap, sym, ◌∙◌, arith, subst}
+use Rattle.std.proofs.Common.{◌≡◌, ℕ, ◌+◌, ◌++◌, List, length, length-append, append_assoc, ap, sym, ◌∙◌, arith}
 use Rattle.linear_algebra.specs.Vectors.{column, row_at}
 use Rattle.linear_algebra.proofs.Betti.{length-column}
 use Rattle.field_matrix.specs.Rows.{cut}

@@ -1,5 +1,5 @@
-use Rattle.std.proofs.Common.{sym, ap, ◌∙◌, ◌+◌, get_or, arith}
-use Rattle.field_matrix.proofs.Splits.{IsSplit, entry_is, split_at}
+use Rattle.std.proofs.Common.{ap, ◌∙◌, ◌+◌, get_or}
+use Rattle.field_matrix.proofs.Splits.{entry_is, split_at}
 use Rattle.field_matrix.proofs.flat.entry_of.Goals as goal
 
 pub returns : goal.returns

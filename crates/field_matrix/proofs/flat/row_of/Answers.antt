@@ -1,4 +1,4 @@
-use Rattle.std.proofs.Common.{◌≡◌, ℕ, List, ◌+◌, ◌-◌, ◌*◌, sym, ap, ◌∙◌, take, drop, arith}
+use Rattle.std.proofs.Common.{◌≡◌, ℕ, List, ◌+◌, ◌-◌, sym, ap, ◌∙◌, take, drop, arith}
 use Rattle.field_matrix.proofs.Splits.{row_is, split_at}
 use Rattle.field_matrix.proofs.flat.row_of.Goals as goal
 

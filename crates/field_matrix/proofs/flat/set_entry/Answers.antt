@@ -1,4 +1,4 @@
-use Rattle.std.proofs.Common.{◌≡◌, ℕ, List, ◌+◌, sym, ap, ◌∙◌, set}
+use Rattle.std.proofs.Common.{ℕ, List, ◌+◌, ap, ◌∙◌, set}
 use Rattle.field_matrix.specs.Rows.{cut}
 use Rattle.field_matrix.proofs.Splits.{entry_put, split_at}
 use Rattle.field_matrix.proofs.flat.set_entry.Goals as goal

@@ -1,5 +1,4 @@
-use Rattle.std.proofs.Common.{◌≡◌, ℕ, ◌++◌, ◌∷◌, [], List, ap, ◌∙◌, take}
-use Rattle.linear_algebra.specs.Marks.{mark}
+use Rattle.std.proofs.Common.{ℕ, ◌++◌, ◌∷◌, [], List, ap, ◌∙◌}
 use Rattle.field_matrix.proofs.Built.{mark_more}
 use Rattle.field_matrix.proofs.joined.push_beside.Goals as goal
 

@@ -1,4 +1,4 @@
-use Rattle.std.proofs.Common.{◌≡◌, ℕ, ◌+◌, ◌*◌, ◌<◌, ◌≤◌, List, length, arith, sym, ap, ◌∙◌, subst}
+use Rattle.std.proofs.Common.{◌≡◌, ℕ, ◌+◌, ◌*◌, ◌<◌, ◌≤◌, List, length, arith, sym, subst}
 use Rattle.linear_algebra.specs.Echelon.{IsReducedTo}
 use Rattle.field_matrix.specs.Rows.{cut}
 use Rattle.field_matrix.specs.Steps.{IsCleared}

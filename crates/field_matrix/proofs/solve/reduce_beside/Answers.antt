@@ -1,9 +1,7 @@
-use Rattle.std.proofs.Common.{ℕ, ◌+◌, List, sym, ap, ◌∙◌, subst}
+use Rattle.std.proofs.Common.{ℕ, ◌+◌, List, sym, subst}
 use Rattle.linear_algebra.specs.Vectors.{IsMatrix}
-use Rattle.linear_algebra.specs.Echelon.{IsReducedTo}
-use Rattle.linear_algebra.proofs.History.{joined_matrix}
 use Rattle.linear_algebra.proofs.Marks.{beside_matrix, identity_matrix}
-use Rattle.linear_algebra.specs.Marks.{identity, beside}
+use Rattle.linear_algebra.specs.Marks.{identity}
 use Rattle.field_matrix.specs.Rows.{cut}
 use Rattle.field_matrix.proofs.Cut.{cut-matrix}
 use Rattle.field_matrix.proofs.solve.reduce_beside.Goals as goal

@@ -1,4 +1,4 @@
-use Rattle.std.proofs.Common.{◌≡◌, ℕ, ◌+◌, ◌++◌, List, Option, length, map, take, drop, replicate, is_some, true, false, sym, ap, ◌∙◌, subst}
+use Rattle.std.proofs.Common.{◌≡◌, ℕ, ◌+◌, ◌++◌, List, Option, length, map, take, drop, replicate, is_some, sym, ap, ◌∙◌, subst}
 use Rattle.linear_algebra.specs.Marks.{identity, beside}
 use Rattle.linear_algebra.specs.Vectors.{IsVector, IsMatrix, combination}
 use Rattle.linear_algebra.specs.Echelon.{IsReducedTo, is_nonzero}
@@ -47,8 +47,7 @@ returns g c =
     let told : c.is_some.result ≡ is_nonzero (take m w) = c.is_some.ensures ∙ (ap (λ (u : Option ℕ). is_some u) c.first_nonzero.ensures ∙ (told_by_first left ∙ ap is_nonzero is_left)) in
     let is : c.from_numbers.result ≡ drop m w = c.from_numbers.ensures ∙ (c.in_ok-numbers.ensures.items ∙ (c.split_at.ensures.back ∙ ap (drop m) c.deref.ensures.value)) in
     let vector : IsVector k n (drop m w) = answer_vector k f m n r rows after a long h c.args.rhs.now w c.requires.rhs s in
-    let solves : combination k m (drop m w) rows ≡ c.args.rhs.now = solved k f m n r rows after a long h c.args.rhs.now w c.requires.rhs s (sym told ∙ c.if-is_some.false) in
-    (
-        subst (IsVector k (length rows)) (sym is) (subst (λ (j : ℕ). IsVector k j (drop m w)) (sym long) vector),
-        ap (λ (cs : List ℕ). combination k m cs rows) is ∙ solves,
+    let solves : combination k m (drop m w) rows ≡ c.args.rhs.now = solved k f m n r rows after a long h c.args.rhs.now w c.requires.rhs s (sym told ∙ c.if-is_some.false) in (
+      subst (IsVector k (length rows)) (sym is) (subst (λ (j : ℕ). IsVector k j (drop m w)) (sym long) vector),
+      ap (λ (cs : List ℕ). combination k m cs rows) is ∙ solves,
     )

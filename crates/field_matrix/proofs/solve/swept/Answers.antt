@@ -1,4 +1,4 @@
-use Rattle.std.proofs.Common.{◌≡◌, ℕ, ◌+◌, ◌++◌, List, length, map, take, drop, replicate, sym, ap, ◌∙◌, arith, subst}
+use Rattle.std.proofs.Common.{◌≡◌, ℕ, ◌+◌, ◌++◌, List, length, map, take, drop, replicate, sym, ◌∙◌, arith, subst}
 use Rattle.std.proofs.lemmas.Grind.{common_steps}
 use Rattle.linear_algebra.specs.Vectors.{IsVector}
 use Rattle.field_matrix.specs.Rows.{cut}

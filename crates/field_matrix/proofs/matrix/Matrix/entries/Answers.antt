@@ -1,4 +1,4 @@
-use Rattle.std.proofs.Common.{length, sym, subst, ap, ℕ, List, ◌∙◌, ◌≡◌}
+use Rattle.std.proofs.Common.{length, sym, subst, ap, ℕ, List, ◌∙◌}
 use Rattle.field_matrix.specs.Rows.{IsFilled, Rows, cut}
 use Rattle.field_matrix.proofs.Views.{rows_are}
 use Rattle.field_matrix.proofs.matrix.Matrix.entries.Goals as goal

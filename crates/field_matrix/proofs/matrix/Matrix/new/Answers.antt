@@ -1,4 +1,4 @@
-use Rattle.std.proofs.Common.{◌≡◌, ℕ, refl, ap, ◌∙◌, ◌*◌, List, replicate, rules}
+use Rattle.std.proofs.Common.{◌≡◌, refl, ap, ◌∙◌, ◌*◌, replicate, rules}
 use Rattle.field_matrix.specs.Rows.{cut}
 use Rattle.field_matrix.proofs.Views.{cut-zeros}
 use Rattle.field_matrix.proofs.matrix.Matrix.new.Goals as goal

@@ -1,4 +1,4 @@
-use Rattle.std.proofs.Common.{◌≡◌, ℕ, ◌<◌, ◌≤◌, ◌^◌, List, length, get_or, Some, refl, sym, ap, ◌∙◌, arith, subst}
+use Rattle.std.proofs.Common.{◌≡◌, ℕ, ◌<◌, ◌≤◌, List, length, get_or, Some, refl, sym, ap, ◌∙◌, arith, subst}
 use Rattle.std.specs.Option.{IsSome}
 use Rattle.lane_rows.specs.Lanes.{first_place}
 use Rattle.linear_algebra.specs.Vectors.{IsMatrix, row_at}
