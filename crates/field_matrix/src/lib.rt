@@ -13,3 +13,6 @@ mod solve;
 pub use matrix::Matrix;
 pub use places::Places;
 pub use row::Row;
+
+#[cfg(test)]
+mod tests;
