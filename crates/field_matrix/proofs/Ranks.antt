@@ -1,4 +1,4 @@
-use Rattle.std.proofs.Common.{◌≡◌, ◌≢◌, ℕ, zero, suc, ◌+◌, ◌<◌, ◌≤◌, ◌⊎◌, inl, inr, List, [], ◌∷◌, length, take, get_or, true, false, cond, is_some, Some, refl, ap, sym, ◌∙◌, arith, subst}
+use Rattle.std.proofs.Common.{◌≡◌, ◌≢◌, ℕ, zero, suc, ◌+◌, ◌<◌, ◌≤◌, ◌⊎◌, inl, inr, List, [], ◌∷◌, length, take, get_or, Bool, true, false, not, cond, is_some, Some, refl, ap, sym, ◌∙◌, arith, subst}
 use Rattle.std.specs.List.{AllByRecursion}
 use Rattle.std.proofs.lemmas.List.Sums.{sum_by-cons, sum_by_more}
 use Rattle.std.proofs.lemmas.List.{take_all, length-take-le, get_or-take}
@@ -65,6 +65,14 @@ told_by_first row =
       | inl z ↦ ap is_some (place_missing row z) ∙ sym (zero_row row z)
       | inr p ↦ ap is_some (first_is row p.0 p.1) ∙ sym (nonzero_at row p.0 p.1.here)
     ]
+
+pub of_not_true : (b : Bool) → not b ≡ true → b ≡ false
+of_not_true true h = cc
+of_not_true false h = refl
+
+pub of_not_false : (b : Bool) → not b ≡ false → b ≡ true
+of_not_false true h = refl
+of_not_false false h = cc
 
 rank_cons : (row : List ℕ) (rows : List (List ℕ)) → rank_of (row ∷ rows) ≡ cond (is_nonzero row) 1 0 + rank_of rows
 rank_cons row rows = sum_by-cons (λ r. cond (is_nonzero r) 1 0) row rows

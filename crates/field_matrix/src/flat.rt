@@ -1,7 +1,8 @@
 //! Rows of one length, one after the other in one slice.
 
-ghost use Rattle.std.specs.Prelude.{◌≡◌, ◌≢◌, ℕ, ◌+◌, ◌*◌, ◌<◌, ◌≤◌, length, map, slice_set, slice_range, All};
+ghost use Rattle.std.specs.Prelude.{◌≡◌, ◌≢◌, ℕ, ◌+◌, ◌*◌, ◌<◌, ◌≤◌, ◌^◌, not, length, map, slice_set, slice_range, All};
 ghost use Rattle.linear_algebra.specs.Vectors.{IsMatrix, AreElements, plus_scaled, row_at, entry};
+ghost use Rattle.linear_algebra.specs.Echelon.{is_nonzero};
 ghost use Rattle.field_matrix.specs.Rows.{cut};
 
 use small_field::Field;
@@ -42,6 +43,15 @@ pub fn entry_of(entries: &[u8], shape: Shape, row: usize, col: usize) -> u8
     ensures { result ≡ entry (cut shape.rows shape.cols entries.now) row col }
 {
     entries[begin_of(entries, shape, row) + col]
+}
+
+/// Whether all numbers are 0.
+#[tactic(auto, using(crate::proofs::Ranks::told_by_first))]
+pub fn is_zero(numbers: &[u8]) -> bool
+    requires { length numbers.now < 2 ^ 32 }
+    ensures { result ≡ not (is_nonzero numbers.now) }
+{
+    !lane_rows::first_nonzero(numbers).is_some()
 }
 
 /// Writes an entry.

@@ -8,7 +8,7 @@ ghost use Rattle.field_matrix.specs.Rows.{cut, IsFilled};
 ghost use Rattle.field_matrix.specs.Solutions.{IsAnswer};
 ghost use Rattle.field_matrix.specs.Steps.{IsReducedBy, IsSwept, IsClearAt};
 
-use crate::flat::Shape;
+use crate::flat::{Shape, is_zero};
 use crate::joined::{beside_identity, negated, reduce_uncounted, right_halves, sweep};
 use crate::matrix::Matrix;
 use crate::row::Row;
@@ -85,11 +85,12 @@ fn solve_rows<F: Field>(
     let history = reduce_beside::<F>(alloc, entries, shape)?;
     let row = swept::<F>(alloc, &history, shape, rhs)?;
     let (left, coefficients) = row.split_at(shape.cols);
-    if lane_rows::first_nonzero(left).is_some() {
-        return Ok(None);
+    if is_zero(left) {
+        let numbers = Vec::from_slice(alloc, coefficients)?;
+        Ok(Some(Row::from_numbers(numbers)))
+    } else {
+        Ok(None)
     }
-    let numbers = Vec::from_slice(alloc, coefficients)?;
-    Ok(Some(Row::from_numbers(numbers)))
 }
 
 /// The rank, and the entries of a basis of the coefficients whose combination is zero.
