@@ -3,7 +3,7 @@
 ghost use Rattle.std.specs.Prelude.{◌≡◌, ◌≢◌, ℕ, ◌+◌, ◌-◌, ◌*◌, ◌<◌, ◌≤◌, ◌^◌, ◌++◌, ◌==◌, if◌then◌else◌, length, map, take, drop, replicate, IfOk, All};
 ghost use Rattle.linear_algebra.specs.Vectors.{AreElements, IsVector, IsMatrix, row_at};
 ghost use Rattle.linear_algebra.specs.Echelon.{IsReducedTo};
-ghost use Rattle.linear_algebra.specs.Marks.{mark, identity, beside, rights};
+ghost use Rattle.linear_algebra.specs.Marks.{mark, identity, beside, lefts, rights};
 ghost use Rattle.field_matrix.specs.Rows.{cut};
 ghost use Rattle.field_matrix.specs.Steps.{IsReducedBy, IsSwept, IsClearAt};
 
@@ -132,6 +132,25 @@ pub fn right_halves(
     let mut halves = Vec::new(alloc);
     for row in from..shape.rows {
         halves.extend_from_slice(&row_of(joined, shape, row)[width..])?;
+    }
+    Ok(halves)
+}
+
+/// The first `width` columns.
+pub fn left_halves(
+    alloc: Global,
+    joined: &[u8],
+    shape: Shape,
+    width: usize,
+) -> Result<Vec<u8>, AllocError>
+    requires shape { length joined.now ≡ shape.rows * shape.cols }
+    requires width { width ≤ shape.cols }
+    ensures long { IfOk result (λ halves. length halves.items ≡ shape.rows * width) }
+    ensures rows { IfOk result (λ halves. cut shape.rows width halves.items ≡ lefts width (cut shape.rows shape.cols joined.now)) }
+{
+    let mut halves = Vec::new(alloc);
+    for row in 0..shape.rows {
+        halves.extend_from_slice(&row_of(joined, shape, row)[..width])?;
     }
     Ok(halves)
 }

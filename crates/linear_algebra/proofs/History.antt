@@ -1,11 +1,11 @@
-use Rattle.std.proofs.Common.{◌≡◌, ℕ, ◌+◌, ◌-◌, ◌<◌, ◌≤◌, List, [], ◌++◌, length, length-append, length-drop, take, drop, replicate, get_or, refl, ap, sym, ◌∙◌, arith, subst}
+use Rattle.std.proofs.Common.{◌≡◌, ℕ, ◌+◌, ◌-◌, ◌<◌, ◌≤◌, List, [], ◌∷◌, ◌++◌, length, length-append, length-drop, map, take, drop, replicate, get_or, refl, ap, sym, ◌∙◌, arith, subst}
 use Rattle.std.specs.List.{AllByRecursion}
 use Rattle.std.proofs.lemmas.Simd.{length-replicate, get_or-replicate}
 use Rattle.std.proofs.lemmas.List.{length-map, length-take-le, take-append-drop, take_at, get_or-take, get_or-drop, drop-map, get_or_default, ext_get_or}
 use Rattle.std.proofs.lemmas.List.Elements.{recursion_from_All}
 use Rattle.small_field.specs.Field.{Ops, IsField}
 use Rattle.linear_algebra.specs.Marks.{identity, beside, lefts, rights}
-use Rattle.linear_algebra.specs.Vectors.{IsVector, IsMatrix, plus_scaled, combination, InSpan, SameSpan, IsIndependent, IsInKernel, IsKernelBasis, row_at, entry}
+use Rattle.linear_algebra.specs.Vectors.{IsVector, IsMatrix, plus_scaled, combination, InSpan, SameSpan, IsIndependent, IsInKernel, IsKernelBasis, IsHistory, row_at, entry}
 use Rattle.linear_algebra.specs.Echelon.{IsReducedTo, IsReducedBelow}
 use Rattle.linear_algebra.proofs.Span.{combination-vector, combination-zeros, zeros-elements, one_times, span_rows, all_at}
 use Rattle.linear_algebra.proofs.Betti.{all_append, all_take, all_drop, all_weaker, combination-append, plus_zeros, pivots_independent}
@@ -269,4 +269,36 @@ module _ (k : Ops) (f : IsField k) (m n r : ℕ) (rows after : List (List ℕ)) 
     inside = kernel_inside;
     independent = subst (λ (j : ℕ). IsIndependent k j kernel_rows) (sym long) kernel_independent;
     complete = λ x q. subst (λ (j : ℕ). InSpan k j kernel_rows x) (sym long) (kernel_complete x q);
+  }
+
+  -- a row whose left half is told by its right half
+  abbrev Given : List ℕ → Type 0
+  Given w = take m w ≡ combination k m (drop m w) rows
+
+  each_gives : (ws : List (List ℕ)) → AllByRecursion (λ w. take m w ≡ combination k m (drop m w) rows) ws → map (λ cs. combination k m cs rows) (rights m ws) ≡ lefts m ws
+  each_gives [] t = refl
+  each_gives (w ∷ ws) t = ap (λ (u : List ℕ). u ∷ map (λ cs. combination k m cs rows) (rights m ws)) (sym t.0) ∙ ap (λ (us : List (List ℕ)). take m w ∷ us) (each_gives ws t.1)
+
+  -- the right halves, as coefficients of the rows, give the left halves
+  gives : map (λ cs. combination k m cs rows) (rights m after) ≡ lefts m after
+  gives = each_gives after (recursion_from_All Given after (λ i d lt. subst Given (sym (get_or_default after i d [] lt)) (history i (subst (λ (j : ℕ). i < j) long_after lt)).0))
+
+  right_independent : IsIndependent k n (rights m after)
+  right_independent cs v z =
+      let lr : length (rights m after) ≡ length after = length-map after (drop m) in
+      let w : IsVector k (length after) cs = subst (λ (j : ℕ). IsVector k j cs) lr v in
+      let C : List ℕ = combination k (m + n) cs after in
+      let right : drop m C ≡ replicate n 0 = drop-combination k f m n cs after h.matrix ∙ z in
+      let p : InSpan k (m + n) (beside rows (identity n)) C = h.span.back C (record { coefficients = cs; vector = w; is = refl }) in
+      let left : take m C ≡ replicate m 0 = (told_by_right C p).0 ∙ (ap (λ (xs : List ℕ). combination k m xs rows) right ∙ combination-zeros k f m n rows a) in
+      let none : C ≡ replicate (m + n) 0 =
+      sym (take-append-drop m C) ∙ (ap (λ (u : List ℕ). u ++ drop m C) left ∙ (ap (λ (u : List ℕ). replicate m 0 ++ u) right ∙ sym (zeros_append k f m n))) in
+      after_independent cs w none ∙ ap (λ (j : ℕ). replicate {A = ℕ} j 0) (sym lr)
+
+  -- the right halves are the history of the left ones
+  pub history_of : IsHistory k m rows (lefts m after) (rights m after)
+  history_of = record {
+    matrix = subst (λ (j : ℕ). IsMatrix k j (rights m after)) (sym long) (right_matrix k f m n after h.matrix);
+    gives = gives;
+    independent = subst (λ (j : ℕ). IsIndependent k j (rights m after)) (sym long) right_independent;
   }

@@ -101,3 +101,9 @@ pub record IsKernelBasis (k : Ops) (m : ℕ) (rows zs : List (List ℕ)) : Type 
   pub inside : AllByRecursion (IsInKernel k m rows) zs
   pub independent : IsIndependent k (length rows) zs
   pub complete : (x : List ℕ) → IsInKernel k m rows x → InSpan k (length rows) zs x
+
+-- independent coefficients that give each of the rows `after` as a combination of `rows`
+pub record IsHistory (k : Ops) (n : ℕ) (rows after history : List (List ℕ)) : Type 0 where
+  pub matrix : IsMatrix k (length rows) history
+  pub gives : map (λ cs. combination k n cs rows) history ≡ after
+  pub independent : IsIndependent k (length rows) history
