@@ -3,7 +3,7 @@ mod Splits
 mod Clear
 mod BringUp
 mod Reduced
-mod Ranks
+pub mod Ranks
 mod Views
 mod Built
 mod Sweep

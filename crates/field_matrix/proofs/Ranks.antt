@@ -155,3 +155,18 @@ module _ (k : Ops) (f : IsField k) where
       (all_weaker (InSpan k n rows) (InSpan k n one) h.span.there rows (span_rows k f n rows a)) in
       let inside : AllByRecursion (InSpan k n rows) us = all_take (InSpan k n rows) r one (all_weaker (InSpan k n one) (InSpan k n rows) h.span.back one (span_rows k f n one h.matrix)) in
       sym (long_pivots k f n r rows one h) ∙ same_rank k f n s rows other g us m (pivots_independent k f n r rows one h) spans inside
+
+rising_from : (width : ℕ) (ps : List ℕ) (i : ℕ) → ((i j : ℕ) → i < j → j < length ps → get_or ps i 0 < get_or ps j 0) → i < length ps → i ≤ get_or ps i 0
+rising_from width ps zero h lt = omega arith
+rising_from width ps (suc i) h lt = let r : i ≤ get_or ps i 0 = rising_from width ps i h (omega arith) in let s : get_or ps i 0 < get_or ps (suc i) 0 = h i (suc i) (omega arith) lt in omega arith
+
+-- there are no more pivots than columns
+pub few_pivots : (width : ℕ) (rows : List (List ℕ)) (pivots : List ℕ) → IsReducedBelow width rows pivots → length pivots ≤ width
+few_pivots width rows pivots h =
+    elim (dec_lt width (length pivots)) [
+      | yes l ↦
+          let from : width ≤ get_or pivots width 0 = rising_from width pivots width h.rising l in
+          let below : get_or pivots width 0 < width = h.within width l in
+          absurd (omega arith)
+      | no n ↦ omega arith
+    ]

@@ -140,3 +140,29 @@ fn treats_each_field_alike(rt: HostRuntime) -> Result<(), Fail> {
     try_identity::<Gfp<7>>(&rt)?;
     Ok(())
 }
+
+fn eliminate_with<F: Field, L: Ledger>(
+    alloc: Global,
+    matrix: &Matrix<F>,
+    blank: Blank,
+) -> Result<Elimination<F>, AllocError>
+    requires name { blank.name ≡ L.name }
+    requires parts { blank.parts ≡ L.parts }
+    requires some { 0 < L.parts }
+{
+    let mut steps = Steps::<L>::new(blank);
+    matrix.eliminate(alloc, &mut steps)
+}
+
+fn eliminate<F: Field>(alloc: Global, matrix: &Matrix<F>) -> Result<Elimination<F>, AllocError> {
+    eliminate_with::<F, Brand>(alloc, matrix, Blank::new(1))
+}
+
+#[test]
+fn tells_how_rows_came_about(rt: HostRuntime) -> Result<(), Fail> {
+    let matrix = filled::<Gfp<5>>(rt.alloc(), 2, 2, &[2, 0, 4, 1])?;
+    let elimination = eliminate(rt.alloc(), &matrix)?;
+    compare(&rt, &elimination.reduced, &[1, 0, 0, 1]);
+    compare(&rt, &elimination.history, &[3, 0, 3, 1]);
+    Ok(())
+}
