@@ -1,0 +1,16 @@
+pub mod Dot
+pub mod Span
+pub mod Solve
+pub mod Decide
+pub mod Scaled
+pub mod Dimension
+pub mod RankSplit
+pub mod Betti
+pub mod Adjoint
+pub mod Bump
+pub mod Triangles
+pub mod Linear
+pub mod Laws
+pub mod Marks
+pub mod Halves
+pub mod History

@@ -1,0 +1,25 @@
+use Rattle.std.specs.Prelude.{◌≡◌, ◌≢◌, ℕ, ◌<◌, List, [], ◌∷◌, ◌++◌, length, map}
+use Rattle.std.specs.List.Sorted.{IsPermutation}
+use Rattle.lane_rows.specs.Lanes.{zip2}
+use Rattle.small_field.specs.Field.{Ops}
+
+-- the sum of a list of elements
+abbrev pub total : Ops → List ℕ → ℕ
+total k [] = 0
+total k (x ∷ xs) = k.add x (total k xs)
+
+-- what follows from the laws of a field
+pub record FurtherLaws (k : Ops) : Type 0 where
+  pub mul_zero : (x : ℕ) → k.mul x 0 ≡ 0
+  pub neg_zero : k.neg 0 ≡ 0
+  pub neg_neg : (x : ℕ) → x < k.size → k.neg (k.neg x) ≡ x
+  pub neg_add : (x y : ℕ) → k.neg (k.add x y) ≡ k.add (k.neg x) (k.neg y)
+  pub mul_neg : (x y : ℕ) → k.mul x (k.neg y) ≡ k.neg (k.mul x y)
+  pub add_cancel : (x y z : ℕ) → y < k.size → z < k.size → k.add x y ≡ k.add x z → y ≡ z
+  pub mul_cancel : (x y z : ℕ) → x < k.size → x ≢ 0 → y < k.size → z < k.size → k.mul x y ≡ k.mul x z → y ≡ z
+  pub no_zero_divisor : (x y : ℕ) → x < k.size → x ≢ 0 → y < k.size → k.mul x y ≡ 0 → y ≡ 0
+  pub total-append : (xs ys : List ℕ) → total k (xs ++ ys) ≡ k.add (total k xs) (total k ys)
+  pub total-rearranged : (xs ys : List ℕ) → IsPermutation xs ys → total k ys ≡ total k xs
+  pub total-sums : (xs ys : List ℕ) → length xs ≡ length ys → total k (zip2 k.add xs ys) ≡ k.add (total k xs) (total k ys)
+  pub mul_total : (x : ℕ) (ys : List ℕ) → k.mul x (total k ys) ≡ total k (map (k.mul x) ys)
+  pub neg_total : (xs : List ℕ) → k.neg (total k xs) ≡ total k (map k.neg xs)

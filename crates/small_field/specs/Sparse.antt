@@ -1,0 +1,8 @@
+use Rattle.std.specs.Prelude.{◌≢◌, ℕ, ◌<◌, ◌^◌, List, length, map, All}
+use Rattle.std.specs.List.Sorted.{IsStrictlyIncreasing}
+
+-- entries at increasing positions, none with the value 0
+pub record IsSparse (entries : List (ℕ × ℕ)) : Type 0 where
+  pub increasing : IsStrictlyIncreasing (map (λ e. e.0) entries)
+  pub nonzero : All (λ e. e.1 ≢ 0) entries
+  pub few : length entries < 2 ^ 32
