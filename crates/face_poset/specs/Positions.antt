@@ -1,5 +1,5 @@
 -- Positions in the search for covers, and their text.
-use Rattle.std.specs.Prelude.{◌≡◌, ℕ, ◌+◌, ◌-◌, ◌≤◌, List, [], ◌∷◌, ◌++◌, Bool, ◌&&◌, ◌==◌, nat_le, length, All, if◌then◌else◌, option_map}
+use Rattle.std.specs.Prelude.{◌≡◌, ◌≢◌, ℕ, ◌+◌, ◌-◌, ◌≤◌, List, [], ◌∷◌, ◌++◌, Bool, ◌&&◌, ◌==◌, nat_le, length, All, if◌then◌else◌, option_map}
 use Rattle.std.specs.declared.option.Option.{Option}
 use Rattle.std.specs.declared.option.Option.TheVariants.{Some, None}
 
@@ -36,3 +36,17 @@ cells_text (x ∷ y ∷ ys) = (48 + x) ∷ 44 ∷ cells_text (y ∷ ys)
 
 abbrev pub position_text : ℕ → List ℕ → List ℕ
 position_text m cells = (48 + m) ∷ 58 ∷ cells_text cells
+
+-- a position other than the start: sheets and cells from 1 to 8, and at least one cell
+pub record IsPosition (sheets : ℕ) (cells : List ℕ) : Type 0 where
+  pub sheets_from_1_to_8 : IsSheet sheets
+  pub some_cell : cells ≢ []
+  pub cells_from_1_to_8 : All IsSheet cells
+
+-- its text is read as the position again
+abbrev pub ReadsBack : ℕ → List ℕ → Type 0
+ReadsBack sheets cells = IsPosition sheets cells → position_of (position_text sheets cells) ≡ Some (sheets, cells)
+
+-- a text that is read is the text of the position that comes
+abbrev pub IsTextOf : List ℕ → ℕ → List ℕ → Type 0
+IsTextOf text sheets cells = IsPosition sheets cells × (text ≡ position_text sheets cells)

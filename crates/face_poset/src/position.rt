@@ -1,7 +1,7 @@
 // Positions in the search for covers.
 ghost use Rattle.std.specs.Prelude.{◌≡◌, ◌≢◌, ◌↔◌, ◌≤◌, [], ℕ, List, length, All, IfOk, OnOk, IsErrOf, IsTrue, IsSome, IsNone, option_map, if◌then◌else◌, nat_le};
 ghost use Rattle.std.specs.declared.option.Option.TheVariants.{Some, None};
-ghost use Rattle.face_poset.specs.Positions.{Placed, IsSheet, is_digit, position_of, cells_of};
+ghost use Rattle.face_poset.specs.Positions.{Placed, IsSheet, is_digit, position_of, cells_of, ReadsBack, IsTextOf};
 
 use std::alloc::{AllocError, Global};
 use std::marker::Model;
@@ -166,3 +166,13 @@ impl Position {
         &self.cells
     }
 }
+
+/// The text of a position is read as the position again.
+pub fn positions_read_back(sheets: u8, cells: &[u8])
+    ensures { ReadsBack sheets cells.now }
+{}
+
+/// A text that is read is the text of the position that comes.
+pub fn texts_are_of_positions(text: &[u8], sheets: u8, cells: &[u8])
+    ensures { position_of text.now ≡ Some (sheets, cells.now) → IsTextOf text.now sheets cells.now }
+{}

@@ -5,7 +5,9 @@ use std::test::Fail;
 fn positions_are_read(rt: HostRuntime) -> Result<(), Fail> {
     let position = Position::parse(rt.alloc(), "3:2,3");
     assert_eq!(rt; position.map(|p| p.sheets()), Ok(3));
-    for text in ["", "-", "3", "3:", "2:9", "0:1", "3:2,", "3:2 3", "33:2", "3:22"] {
+    for text in [
+        "", "-", "3", "3:", "2:9", "0:1", "3:2,", "3:2 3", "33:2", "3:22",
+    ] {
         let refused = Position::parse(rt.alloc(), text);
         assert!(rt; refused.is_err_and(|fault| fault == PositionFault::Form));
     }
