@@ -1,0 +1,10 @@
+pub mod Value
+pub mod Code
+pub mod Nest
+pub mod Falls
+pub mod Tokens
+pub mod Places
+pub mod Reading
+pub mod Grammar
+pub mod States
+pub mod Readers
