@@ -1,0 +1,7 @@
+pub mod Words
+pub mod Poset
+pub mod Signs
+pub mod Below
+pub mod Cuts
+pub mod Cofaces
+pub mod Rooms
