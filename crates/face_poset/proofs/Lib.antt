@@ -1,1 +1,4 @@
+pub mod Counting
 pub mod Cuts
+pub mod Members
+pub mod Rooms
