@@ -2,3 +2,4 @@ pub mod Counting
 pub mod Cuts
 pub mod Members
 pub mod Rooms
+pub mod SpaceLemmas
