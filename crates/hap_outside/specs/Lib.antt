@@ -1,0 +1,9 @@
+pub mod Causes
+pub mod Stores
+pub mod Writes
+pub mod Pieces
+pub mod BytesState
+pub mod Entries
+pub mod SteadyState
+pub mod PaperState
+pub mod HostState

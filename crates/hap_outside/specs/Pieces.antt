@@ -1,0 +1,15 @@
+-- The text of the pieces of a line.
+use Rattle.std.specs.Prelude.{ℕ, List, [], ◌∷◌, ◌++◌}
+use Rattle.std.specs.Fmt.{signed_decimal}
+use Rattle.hap_outside.specs.declared.pieces.Piece.{Piece}
+use Rattle.hap_outside.specs.declared.pieces.Piece.TheVariants.{Text, Number}
+
+-- a text stands for itself, and a number for its decimal digits, with a minus sign below 0
+abbrev pub text_of : Piece → List ℕ
+text_of (Text text) = text.now
+text_of (Number value) = signed_decimal value
+
+-- the texts one after another
+abbrev pub texts_of : List Piece → List ℕ
+texts_of [] = []
+texts_of (piece ∷ pieces) = text_of piece ++ texts_of pieces
