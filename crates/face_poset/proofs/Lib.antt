@@ -1,3 +1,4 @@
+pub mod BelowLemmas
 pub mod Counting
 pub mod Cuts
 pub mod Members

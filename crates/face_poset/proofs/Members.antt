@@ -1,15 +1,15 @@
 -- Lemmas on increasing lists of numbers, their members and counts.
-use Rattle.std.proofs.Common.{◌≡◌, ◌≢◌, ◌⊎◌, inl, inr, ℕ, zero, suc, ◌+◌, ◌-◌, ◌<◌, ◌≤◌, List, [], ◌∷◌, ◌++◌, length, take, drop, get_or, map, Bool, true, false, cond, ◌||◌, eqb, refl, ap, sym, ◌∙◌, subst, arith, filter, All, Any, Contains, count_by, set, zero-add}
+use Rattle.std.proofs.Common.{◌≡◌, ◌≢◌, ◌⊎◌, inl, inr, ℕ, zero, suc, ◌+◌, ◌-◌, ◌<◌, ◌≤◌, List, [], ◌∷◌, ◌++◌, length, take, drop, get_or, map, Bool, true, false, cond, ◌||◌, ◌&&◌, eqb, refl, ap, sym, ◌∙◌, subst, arith, filter, All, Any, Contains, count_by, set, zero-add}
 use Rattle.std.specs.List.{list_any, range_with_len}
 use Rattle.std.specs.List.Sorted.{IsStrictlyIncreasing}
-use Rattle.std.proofs.lemmas.Bool.{eqb-true, eq-eqb}
+use Rattle.std.proofs.lemmas.Bool.{eqb-true, eq-eqb, false≢true}
 use Rattle.std.proofs.lemmas.Bool.Decides.{eqb_tells}
 use Rattle.std.proofs.lemmas.List.{map-id, get_or_default, get_or-take, length-take-le, same_lists, length-set, get_or-set_same, get_or-set_other}
 use Rattle.std.proofs.lemmas.List.FromFn.{map-range_with_len_more, length-map-range_with_len, get_or-map-range_with_len, length-range_with_len, get_or-range_with_len}
 use Rattle.std.proofs.lemmas.List.Sums.{sum_by-cons, sum_by-append}
 use Rattle.std.proofs.lemmas.List.Folds.{Any-from_list_any, list_any_at, list_any_none, list_any_more}
 use Rattle.std.proofs.lemmas.List.Elements.{filter-append, All-head, All-tail, All-cons, All-nil}
-use Rattle.std.proofs.lemmas.List.Kept.{AllPairs-from_increasing}
+use Rattle.std.proofs.lemmas.List.Kept.{AllPairs-from_increasing, IsStrictlyIncreasing-filter}
 use Rattle.face_poset.specs.Words.{upto, holds}
 
 pub upto_more : (n : ℕ) → upto (n + 1) ≡ upto n ++ (n + 1) ∷ []
@@ -107,3 +107,107 @@ set-map-upto F G n g y low high here others =
             get_or-set_other (map F (upto n)) (g - 1) k y d p.1
             ∙ (from ∙ (others (k + 1) (λ e. p.1 (omega arith)) ∙ sym to))
         ])
+
+-- sorted lists by their members
+
+same_bool : (a b : Bool) → (a ≡ true → b ≡ true) → (b ≡ true → a ≡ true) → a ≡ b
+same_bool true b f g = sym (f refl)
+same_bool false true f g = g refl
+same_bool false false f g = refl
+
+pub same_holds : (xs ys : List ℕ) (n : ℕ) → (Contains xs n → Contains ys n) → (Contains ys n → Contains xs n) → holds xs n ≡ holds ys n
+same_holds xs ys n f g =
+    same_bool (holds xs n) (holds ys n) (λ h. holds-from ys n (f (Contains-from_holds xs n h))) (λ h. holds-from xs n (g (Contains-from_holds ys n h)))
+
+-- a number of an increasing list that is not the first is above it
+above_head : (x n : ℕ) (xs : List ℕ) → IsStrictlyIncreasing (x ∷ xs) → holds (x ∷ xs) n ≡ true → (n ≡ x) ⊎ (x < n)
+above_head x n xs h has =
+    elim (eqb_tells x n) [
+      | inl p ↦ inl (sym p.1)
+      | inr p ↦
+        let rest : holds xs n ≡ true = sym (ap (λ (b : Bool). b || holds xs n) p.0) ∙ has in
+        let at : Contains xs n = Contains-from_holds xs n rest in
+        let less : x < get_or xs at.0 n = increasing_head x xs h at.0 n at.1 in
+        let here : get_or xs at.0 n ≡ n = at.2 in
+        inr (omega arith)
+    ]
+
+-- a list from a number on has no smaller one
+not_below : (x n : ℕ) (xs : List ℕ) → IsStrictlyIncreasing (x ∷ xs) → n ≤ x → holds xs n ≡ false
+not_below x n xs h le = holds-none xs n (λ k d l e. omega (arith, increasing_head x xs h k d l, e))
+
+has_head : (x : ℕ) (xs : List ℕ) → holds (x ∷ xs) x ≡ true
+has_head x xs = ap (λ (c : Bool). c || holds xs x) (eq-eqb x x refl)
+
+tails : (x : ℕ) (xs ys : List ℕ) (n : ℕ) → IsStrictlyIncreasing (x ∷ xs) → IsStrictlyIncreasing (x ∷ ys) → holds (x ∷ xs) n ≡ holds (x ∷ ys) n → holds xs n ≡ holds ys n
+tails x xs ys n a b h =
+    elim (eqb_tells x n) [
+      | inl p ↦ let q : x ≡ n = p.1 in not_below x n xs a (omega arith) ∙ sym (not_below x n ys b (omega arith))
+      | inr p ↦ ap (λ (c : Bool). c || holds xs n) (sym p.0) ∙ (h ∙ ap (λ (c : Bool). c || holds ys n) p.0)
+    ]
+
+-- increasing lists with the same members are the same
+pub same_increasing : (xs ys : List ℕ) → IsStrictlyIncreasing xs → IsStrictlyIncreasing ys → ((n : ℕ) → holds xs n ≡ holds ys n) → xs ≡ ys
+same_increasing [] [] a b h = refl
+same_increasing [] (y ∷ ys) a b h = absurd (false≢true (h y ∙ has_head y ys))
+same_increasing (x ∷ xs) [] a b h = absurd (false≢true (sym (h x) ∙ has_head x xs))
+same_increasing (x ∷ xs) (y ∷ ys) a b h =
+    let u : (x ≡ y) ⊎ (y < x) = above_head y x ys b (sym (h x) ∙ has_head x xs) in
+    let v : (y ≡ x) ⊎ (x < y) = above_head x y xs a (h y ∙ has_head y ys) in
+    let e : y ≡ x = elim u [ inl p ↦ sym p | inr p ↦ elim v [ inl q ↦ q | inr q ↦ absurd (omega arith) ] ] in
+    let b' : IsStrictlyIncreasing (x ∷ ys) = subst (λ (z : ℕ). IsStrictlyIncreasing (z ∷ ys)) e b in
+    let h' : (n : ℕ) → holds (x ∷ xs) n ≡ holds (x ∷ ys) n = λ n. h n ∙ ap (λ (z : ℕ). holds (z ∷ ys) n) e in
+    let rest : xs ≡ ys = same_increasing xs ys (increasing_tail x xs a) (increasing_tail x ys b') (λ n. tails x xs ys n a b' (h' n)) in
+    ap (λ (zs : List ℕ). x ∷ zs) rest ∙ ap (λ (z : ℕ). z ∷ ys) (sym e)
+
+and_false : (b : Bool) → (b && false) ≡ false
+and_false true = refl
+and_false false = refl
+
+and_true : (b : Bool) → (b && true) ≡ b
+and_true true = refl
+and_true false = refl
+
+filter_step : (p : ℕ → Bool) (x : ℕ) (xs : List ℕ) (n : ℕ) → holds (filter p xs) n ≡ (p n && holds xs n)
+    → (b : Bool) → p x ≡ b → holds (cond b (x ∷ filter p xs) (filter p xs)) n ≡ (p n && (eqb x n || holds xs n))
+filter_step p x xs n rest true e =
+    elim (eqb_tells x n) [
+      | inl q ↦
+        let yes : p n ≡ true = ap p (sym q.1) ∙ e in
+        ap (λ (c : Bool). c || holds (filter p xs) n) q.0 ∙ sym (ap (λ (c : Bool). c && (eqb x n || holds xs n)) yes ∙ ap (λ (c : Bool). c || holds xs n) q.0)
+      | inr q ↦ ap (λ (c : Bool). c || holds (filter p xs) n) q.0 ∙ (rest ∙ ap (λ (c : Bool). p n && (c || holds xs n)) (sym q.0))
+    ]
+filter_step p x xs n rest false e =
+    elim (eqb_tells x n) [
+      | inl q ↦
+        let no : p n ≡ false = ap p (sym q.1) ∙ e in
+        rest ∙ (ap (λ (c : Bool). c && holds xs n) no ∙ sym (ap (λ (c : Bool). c && (eqb x n || holds xs n)) no))
+      | inr q ↦ rest ∙ ap (λ (c : Bool). p n && (c || holds xs n)) (sym q.0)
+    ]
+
+-- the members of a filtered list
+pub holds-filter : (p : ℕ → Bool) (xs : List ℕ) (n : ℕ) → holds (filter p xs) n ≡ (p n && holds xs n)
+holds-filter p [] n = sym (and_false (p n))
+holds-filter p (x ∷ xs) n = filter_step p x xs n (holds-filter p xs n) (p x) refl
+
+pub increasing-upto : (n : ℕ) → IsStrictlyIncreasing (upto n)
+increasing-upto n k l =
+    let lt : k + 1 < n = omega (arith, length-upto n) in
+    let a : get_or (upto n) k 0 ≡ k + 1 = get_or-upto n k (omega arith) in
+    let b : get_or (upto n) (k + 1) 0 ≡ k + 1 + 1 = get_or-upto n (k + 1) lt in
+    omega arith
+
+pub holds-upto : (most n : ℕ) → 1 ≤ n → n ≤ most → holds (upto most) n ≡ true
+holds-upto most n low high =
+    let at : get_or (upto most) (n - 1) n ≡ 1 + (n - 1) = get_or-range_with_len 1 most (n - 1) n (omega arith) in
+    holds-from (upto most) n (n - 1, omega (arith, length-upto most), (let e : get_or (upto most) (n - 1) n ≡ n = omega arith in e))
+
+-- an increasing list whose members are the numbers up to `most` that pass a test
+pub members_sorted : (xs : List ℕ) (p : ℕ → Bool) (most : ℕ) → IsStrictlyIncreasing xs → ((n : ℕ) → holds xs n ≡ p n) → ((n : ℕ) → p n ≡ true → (1 ≤ n) × (n ≤ most)) → xs ≡ filter p (upto most)
+members_sorted xs p most rises same within =
+    same_increasing xs (filter p (upto most)) rises (IsStrictlyIncreasing-filter p (upto most) (increasing-upto most))
+    (λ n. same n ∙ sym (holds-filter p (upto most) n ∙ by_test n (p n) refl))
+  where
+    by_test : (n : ℕ) (b : Bool) → p n ≡ b → (b && holds (upto most) n) ≡ b
+    by_test n true e = let w : (1 ≤ n) × (n ≤ most) = within n e in holds-upto most n w.0 w.1
+    by_test n false e = refl

@@ -81,3 +81,13 @@ IsSpace-add space dim facets h le few last vertex cell =
       ];
       few = omega (arith, counts_add space dim facets four le);
     }
+
+-- a dimension that has a cell
+pub dim_within : (space : List (List (List ℕ))) (dim : ℕ) → length space ≡ 4 → 1 ≤ count space dim → dim ≤ 3
+dim_within space zero four some = omega arith
+dim_within space (suc zero) four some = omega arith
+dim_within space (suc (suc zero)) four some = omega arith
+dim_within space (suc (suc (suc zero))) four some = omega arith
+dim_within space (suc (suc (suc (suc dim)))) four some =
+    let none : layer space (suc (suc (suc (suc dim)))) ≡ [] = get_or_past space (suc (suc (suc (suc dim)))) [] (omega arith) in
+    absurd (omega (arith, ap length none))

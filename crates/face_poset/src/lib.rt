@@ -4,6 +4,7 @@
 //! increasing, nonempty list of facets, which are cells of one dimension less.
 #![tactic(auto)]
 
+mod below;
 mod builder;
 mod cells;
 mod cofaces;

@@ -1,6 +1,9 @@
 ghost use Rattle.std.specs.Prelude.{◌≡◌, ◌≤◌, IfOk};
+ghost use Rattle.face_poset.specs.Below.{closed_cell};
 ghost use Rattle.face_poset.specs.Poset.{count, facets_of, cofaces_of, IsSpace, IsLimited, dimension_of, euler_of};
 
+use crate::below::push_closure;
+use crate::cells::CellList;
 use crate::cofaces::cofaces_in;
 use crate::graded::Graded;
 use crate::lists::Lists;
@@ -69,6 +72,17 @@ impl Space {
         let faces = i64::from(self.cells(2));
         let solids = i64::from(self.cells(3));
         vertices - edges + faces - solids
+    }
+
+    /// The cell and all its faces, in the order of ids.
+    pub fn below(&self, alloc: Global, dim: u8, cell: u32) -> Result<CellList, AllocError>
+        requires first { 1 ≤ cell }
+        requires last { cell ≤ count self.now dim }
+        ensures { IfOk result (λ cells. cells ≡ closed_cell self.now dim cell) }
+    {
+        let mut list = CellList::new(alloc);
+        push_closure(alloc, &self.facets, dim, &[cell], &mut list)?;
+        Ok(list)
     }
 }
 
