@@ -4,3 +4,5 @@ pub mod Cuts
 pub mod Members
 pub mod Rooms
 pub mod SpaceLemmas
+pub mod TextLemmas
+pub mod Writing

@@ -10,6 +10,7 @@ mod cells;
 mod cofaces;
 mod graded;
 mod lists;
+mod printer;
 mod slots;
 mod space;
 

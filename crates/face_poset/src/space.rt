@@ -1,4 +1,7 @@
 ghost use Rattle.std.specs.Prelude.{◌≡◌, ◌≤◌, IfOk};
+ghost use Rattle.hap_outside.specs.Causes.{HasCause};
+ghost use Rattle.hap_outside.specs.Writes.{Writes};
+ghost use Rattle.face_poset.specs.Text.{boundary_text};
 ghost use Rattle.face_poset.specs.Below.{closed_cell};
 ghost use Rattle.face_poset.specs.Poset.{count, facets_of, cofaces_of, IsSpace, IsLimited, dimension_of, euler_of};
 
@@ -7,6 +10,8 @@ use crate::cells::CellList;
 use crate::cofaces::cofaces_in;
 use crate::graded::Graded;
 use crate::lists::Lists;
+use crate::printer::write_layers;
+use hap_outside::{Failed, Sink};
 use std::alloc::{AllocError, Global};
 use std::marker::Model;
 
@@ -83,6 +88,14 @@ impl Space {
         let mut list = CellList::new(alloc);
         push_closure(alloc, &self.facets, dim, &[cell], &mut list)?;
         Ok(list)
+    }
+
+    /// Appends the boundary text of the space, or a prefix of it and fails.
+    pub fn print<K: Sink>(&self, sink: &mut K) -> Result<(), Failed>
+        ensures bytes { Writes (K.written sink.old) (K.written sink.new) (boundary_text self.now) result }
+        ensures cause { HasCause (K.faults sink.old) (K.faults sink.new) result }
+    {
+        write_layers(sink, &self.facets, self.dimension())
     }
 }
 
