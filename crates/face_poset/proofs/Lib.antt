@@ -1,6 +1,7 @@
 pub mod BelowLemmas
 pub mod Counting
 pub mod Cuts
+pub mod Facets
 pub mod Members
 pub mod Rooms
 pub mod SpaceLemmas

@@ -1,5 +1,6 @@
 pub mod Words
 pub mod Poset
+pub mod Reader
 pub mod Signs
 pub mod Text
 pub mod Below

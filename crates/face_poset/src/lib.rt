@@ -6,8 +6,10 @@
 
 mod below;
 mod builder;
+mod cell_reader;
 mod cells;
 mod cofaces;
+mod fault;
 mod graded;
 mod lists;
 mod printer;
@@ -16,5 +18,6 @@ mod space;
 
 pub use builder::{BuildFault, Builder};
 pub use cells::{Cell, CellList, Pair};
+pub use fault::SpaceFault;
 pub use graded::{Graded, Signed};
 pub use space::Space;
