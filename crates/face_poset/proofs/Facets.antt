@@ -34,7 +34,7 @@ facets_checked (suc dim) below n t fs outside twice low some long a b =
 eqb_flips : (x y : ℕ) → eqb x y ≡ eqb y x
 eqb_flips x y = elim (eqb_tells x y) [ inl p ↦ p.0 ∙ sym (eq-eqb y x (sym p.1)) | inr p ↦ p.0 ∙ sym (differ y x (λ e. p.1 (sym e))) ]
 
-or_parts : (a b : Bool) → (a || b) ≡ false → (a ≡ false) × (b ≡ false)
+pub or_parts : (a b : Bool) → (a || b) ≡ false → (a ≡ false) × (b ≡ false)
 or_parts true b h = absurd (false≢true (sym h))
 or_parts false b h = (refl, h)
 
@@ -78,7 +78,7 @@ falling_twice fs sorted k moved up l le = by_test (repeats fs) refl
 
 -- the facets in order
 
-inside : (below : ℕ) (fs : List ℕ) (n : ℕ) → list_any (is_outside below) fs ≡ false → holds fs n ≡ true → (1 ≤ n) × (n ≤ below)
+pub inside : (below : ℕ) (fs : List ℕ) (n : ℕ) → list_any (is_outside below) fs ≡ false → holds fs n ≡ true → (1 ≤ n) × (n ≤ below)
 inside below fs n none has =
     let at : Contains fs n = Contains-from_holds fs n has in
     let test : is_outside below n ≡ false = ap (is_outside below) (sym at.2) ∙ fails (is_outside below) fs at.0 n at.1 none in

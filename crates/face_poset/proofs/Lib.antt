@@ -1,9 +1,12 @@
 pub mod BelowLemmas
 pub mod Counting
 pub mod Cuts
+pub mod Each
 pub mod Facets
+pub mod LayerLemmas
 pub mod Members
 pub mod Rooms
 pub mod SpaceLemmas
 pub mod TextLemmas
+pub mod Values
 pub mod Writing

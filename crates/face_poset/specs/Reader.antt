@@ -5,11 +5,11 @@
 -- numbers of cells of the layer before. The faults are looked for in this order: a wrong shape of the
 -- top or of a layer, no layer, more than four layers, more than 60,000 cells, and then cell by cell a
 -- wrong shape, a wrong count, a face out of range, a repeated face.
-use Rattle.std.specs.Prelude.{◌≡◌, ◌≢◌, ℕ, zero, suc, List, [], ◌∷◌, length, Bool, false, cond, not, ◌&&◌, ◌||◌, ◌==◌, nat_lt, Result, Ok, Err, filter, sum_by, slice_index_or}
+use Rattle.std.specs.Prelude.{ℕ, zero, suc, List, [], ◌∷◌, length, Bool, false, cond, not, ◌&&◌, ◌||◌, ◌==◌, nat_lt, Result, Ok, Err, filter, sum_by, slice_index_or}
 use Rattle.std.specs.List.{list_any}
 use Rattle.gap_text.specs.Value.{Value, number, list, none, more, items}
 use Rattle.face_poset.specs.declared.fault.SpaceFault.{SpaceFault}
-use Rattle.face_poset.specs.declared.fault.SpaceFault.TheVariants.{Shape, Empty, TooHigh, BadCount, FaceOutOfRange, RepeatedFace, TooManyCells, Memory}
+use Rattle.face_poset.specs.declared.fault.SpaceFault.TheVariants.{Shape, Empty, TooHigh, BadCount, FaceOutOfRange, RepeatedFace, TooManyCells}
 use Rattle.face_poset.specs.Words.{upto, holds}
 use Rattle.face_poset.specs.Below.{cell_at}
 
@@ -82,13 +82,13 @@ trimmed (l ∷ ls) = keep_before l (trimmed ls)
 abbrev pub cells_in : List (List Value) → ℕ → List Value
 cells_in layers dim = slice_index_or layers dim []
 
--- layer by layer
+-- layer by layer, each over the one before
 abbrev pub layers_from : List (List Value) → Result (List (List (List ℕ))) SpaceFault
 layers_from layers =
     and_then (layer_from 0 0 (cells_in layers 0)) (λ vertices.
-    and_then (layer_from 1 (length (cells_in layers 0)) (cells_in layers 1)) (λ edges.
-    and_then (layer_from 2 (length (cells_in layers 1)) (cells_in layers 2)) (λ faces.
-    and_then (layer_from 3 (length (cells_in layers 2)) (cells_in layers 3)) (λ solids.
+    and_then (layer_from 1 (length vertices) (cells_in layers 1)) (λ edges.
+    and_then (layer_from 2 (length edges) (cells_in layers 2)) (λ faces.
+    and_then (layer_from 3 (length faces) (cells_in layers 3)) (λ solids.
     Ok (vertices ∷ edges ∷ faces ∷ solids ∷ [])))))
 
 -- layers that are not too few, too many or too large
@@ -101,8 +101,3 @@ sized layers =
 
 abbrev pub space_of : Value → Result (List (List (List ℕ))) SpaceFault
 space_of v = and_then (as_list v) (λ tops. and_then (each_from 0 (λ _ w. as_list w) tops) (λ layers. sized (trimmed layers)))
-
--- the code's answer is the wanted one, or want of memory
-abbrev pub Gives : {A : Type 0} → Result A SpaceFault → Result A SpaceFault → Type 0
-Gives wanted (Ok a) = wanted ≡ Ok a
-Gives wanted (Err f) = f ≢ Memory → wanted ≡ Err f

@@ -13,6 +13,7 @@ mod fault;
 mod graded;
 mod lists;
 mod printer;
+mod reader;
 mod slots;
 mod space;
 
@@ -20,4 +21,5 @@ pub use builder::{BuildFault, Builder};
 pub use cells::{Cell, CellList, Pair};
 pub use fault::SpaceFault;
 pub use graded::{Graded, Signed};
+pub use reader::from_nest;
 pub use space::Space;
