@@ -7,12 +7,16 @@ ghost use Rattle.gap_text.specs.Reading.{value_of};
 
 mod byte;
 mod fault;
+mod laws;
 mod nest;
 mod reader;
 mod state;
+#[cfg(test)]
+mod tests;
 
 use byte::Class;
 pub use fault::TextFault;
+pub use laws::{fault_is_no_value, fault_is_placed, value_is_spelled};
 pub use nest::{Items, Nest};
 use reader::Reader;
 use std::alloc::Global;
@@ -32,7 +36,7 @@ pub fn parse(alloc: Global, text: &[u8]) -> Result<Nest, TextFault>
 {
     let mut reader = Reader::new(alloc);
     for (place, byte) in text.iter().enumerate() {
-        reader = reader.feed(place as u32, Class::of(*byte))?;
+        reader.feed(place as u32, Class::of(*byte))?;
     }
     reader.into_value(text.len() as u32)
 }
