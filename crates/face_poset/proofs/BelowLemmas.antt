@@ -49,7 +49,7 @@ sorted_facets space dim cells all xs h valid e rises keeps adds =
         let r : (1 ≤ n) × (n ≤ count space (dim + 1 - 1)) = facet_within space (dim + 1) a.0 n h (omega arith) v.0 v.1 (Contains-from_holds (facets_of space (dim + 1) a.0) n a.2) in
         subst (λ (m : ℕ). (1 ≤ n) × (n ≤ count space m)) (let q : dim + 1 - 1 ≡ dim = omega arith in q) r)
 
-length-filter-le : {X : Type 0} (p : X → Bool) (xs : List X) → length (filter p xs) ≤ length xs
+pub length-filter-le : {X : Type 0} (p : X → Bool) (xs : List X) → length (filter p xs) ≤ length xs
 length-filter-le p [] = omega arith
 length-filter-le p (x ∷ xs) =
     let rest : length (filter p xs) ≤ length xs = length-filter-le p xs in

@@ -51,12 +51,12 @@ unfolding IsDistinct
 distinct [] h = tt
 distinct (x ∷ xs) h = let p : (holds xs x ≡ false) × (repeats xs ≡ false) = or_parts (holds xs x) (repeats xs) h in (all_differ x xs p.0, distinct xs p.1)
 
-none_twice : (xs : List ℕ) → IsDistinct eqb xs → repeats xs ≡ false
+pub none_twice : (xs : List ℕ) → IsDistinct eqb xs → repeats xs ≡ false
 unfolding IsDistinct
 none_twice [] h = refl
 none_twice (x ∷ xs) h = ap (λ (c : Bool). c || repeats xs) (none_same x xs h.0) ∙ none_twice xs h.1
 
-distinct_rising : (xs : List ℕ) → IsStrictlyIncreasing xs → IsDistinct eqb xs
+pub distinct_rising : (xs : List ℕ) → IsStrictlyIncreasing xs → IsDistinct eqb xs
 unfolding IsDistinct
 distinct_rising [] h = tt
 distinct_rising (x ∷ xs) h =

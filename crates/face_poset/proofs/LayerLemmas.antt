@@ -218,7 +218,7 @@ none_above below (fs ∷ cells) h none =
     let w : (1 ≤ get_or fs 0 0) × (get_or fs 0 0 ≤ below) = first.within 0 0 (omega arith) in
     absurd (omega arith)
 
-total_four : (ls : List (List Value)) → length ls ≤ 4 → length (cells_in ls 0) + length (cells_in ls 1) + length (cells_in ls 2) + length (cells_in ls 3) ≡ sum_by (λ cells. length cells) ls
+pub total_four : (ls : List (List Value)) → length ls ≤ 4 → length (cells_in ls 0) + length (cells_in ls 1) + length (cells_in ls 2) + length (cells_in ls 3) ≡ sum_by (λ cells. length cells) ls
 total_four [] h = omega arith
 total_four (a ∷ []) h = omega arith
 total_four (a ∷ b ∷ []) h = omega arith
@@ -296,3 +296,15 @@ sized-many tops some low many =
     ap (λ (b : Bool). cond b (Err Empty) (cond (ltb 4 (length ls)) (Err TooHigh) (cond (ltb 60000 total) (Err TooManyCells) (layers_from ls)))) (differ (length ls) 0 (λ e. omega (arith, some, e)))
     ∙ (ap (λ (b : Bool). cond b (Err TooHigh) (cond (ltb 60000 total) (Err TooManyCells) (layers_from ls))) (le-ltb 4 (length ls) low)
     ∙ ap (λ (b : Bool). cond b (Err TooManyCells) (layers_from ls)) (lt-ltb 60000 total many))
+
+-- layers of which the last has a cell are kept
+pub trimmed-full : (ls : List (List Value)) → 1 ≤ length (get_or ls (length ls - 1) []) → trimmed ls ≡ ls
+trimmed-full [] h = absurd (omega arith)
+trimmed-full ([] ∷ []) h = absurd (omega arith)
+trimmed-full ((v ∷ vs) ∷ []) h = refl
+trimmed-full (l ∷ m ∷ ls) h =
+    let e : suc (suc (length ls)) - 1 ≡ suc (length ls) = omega arith in
+    let f : length ls ≡ suc (length ls) - 1 = omega arith in
+    let at : 1 ≤ length (get_or (l ∷ m ∷ ls) (suc (length ls)) []) = subst (λ (n : ℕ). 1 ≤ length (get_or (l ∷ m ∷ ls) n [])) e h in
+    let last : 1 ≤ length (get_or (m ∷ ls) (suc (length ls) - 1) []) = subst (λ (n : ℕ). 1 ≤ length (get_or (m ∷ ls) n [])) f at in
+    ap (keep_before l) (trimmed-full (m ∷ ls) last) ∙ keep-some l (m ∷ ls) (omega arith)

@@ -5,8 +5,10 @@ pub mod Each
 pub mod Facets
 pub mod LayerLemmas
 pub mod Members
+pub mod ReadBack
 pub mod Rooms
 pub mod SpaceLemmas
+pub mod Spelling
 pub mod TextLemmas
 pub mod Values
 pub mod Writing

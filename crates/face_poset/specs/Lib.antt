@@ -1,6 +1,7 @@
 pub mod Words
 pub mod Poset
 pub mod Reader
+pub mod Laws
 pub mod Layers
 pub mod Signs
 pub mod Text
