@@ -18,12 +18,12 @@ closure-step space (suc dim) cells ne =
     ap (λ (d : ℕ). closure space d (facets_of_all space d cells) ++ map (cell_at (suc dim)) cells) e
 
 -- the facets of these cells are those of some cell
-holds-flat_map : (F : ℕ → List ℕ) (cells : List ℕ) (n : ℕ) → holds (flat_map F cells) n ≡ list_any (λ c. holds (F c) n) cells
+pub holds-flat_map : (F : ℕ → List ℕ) (cells : List ℕ) (n : ℕ) → holds (flat_map F cells) n ≡ list_any (λ c. holds (F c) n) cells
 holds-flat_map F [] n = refl
 holds-flat_map F (c ∷ cells) n = list_any-append (λ y. eqb y n) (F c) (flat_map F cells) ∙ ap (λ (b : Bool). holds (F c) n || b) (holds-flat_map F cells n)
 
 -- a list with some element that passes
-any_at : {X : Type 0} (p : X → Bool) (xs : List X) → list_any p xs ≡ true → (x : X) × Contains xs x × (p x ≡ true)
+pub any_at : {X : Type 0} (p : X → Bool) (xs : List X) → list_any p xs ≡ true → (x : X) × Contains xs x × (p x ≡ true)
 any_at p xs h = let a : Any (λ x. p x ≡ true) xs = Any-from_list_any p xs h in (a.1, (a.0, a.2, a.3), a.4)
 
 -- facets are cells of one dimension less
@@ -61,7 +61,7 @@ facets_within space dim cells = All-filter (λ f. list_any (λ c. holds (facets_
 pub facets_few : (space : List (List (List ℕ))) (dim : ℕ) (cells : List ℕ) → length (facets_of_all space dim cells) ≤ count space dim
 facets_few space dim cells = omega (arith, length-filter-le (λ f. list_any (λ c. holds (facets_of space (dim + 1) c) f) cells) (upto (count space dim)), length-upto (count space dim))
 
-count-few : (space : List (List (List ℕ))) → length space ≡ 4 → cell_count space ≤ 60000 → (d : ℕ) → count space d ≤ 60000
+pub count-few : (space : List (List (List ℕ))) → length space ≡ 4 → cell_count space ≤ 60000 → (d : ℕ) → count space d ≤ 60000
 count-few space four few zero = omega arith
 count-few space four few (suc zero) = omega arith
 count-few space four few (suc (suc zero)) = omega arith

@@ -1,4 +1,6 @@
+pub mod BelowLaw
 pub mod BelowLemmas
+pub mod CofaceLaw
 pub mod Counting
 pub mod Cuts
 pub mod Each

@@ -13,14 +13,14 @@ use Rattle.gap_text.specs.Reading.{value_of}
 use Rattle.gap_text.proofs.Joined.{value_of-spelled}
 use Rattle.face_poset.specs.declared.fault.SpaceFault.{SpaceFault}
 use Rattle.face_poset.specs.Words.{upto, holds}
-use Rattle.face_poset.specs.Poset.{layer, count, cell_count, dimension_of, IsCell, IsSpace, IsLimited}
+use Rattle.face_poset.specs.Poset.{layer, count, cell_count, dimension_of, IsDimension, IsCell, IsSpace, IsLimited}
 use Rattle.face_poset.specs.Text.{brackets, cell_text, layer_text, layer_texts, boundary_text}
 use Rattle.face_poset.specs.Reader.{and_then, each_from, as_list, as_number, as_cell, facets_from, cell_from, layer_from, layers_from, cells_in, trimmed, sized, space_of, repeats}
 use Rattle.face_poset.specs.Layers.{inner, kept, IsSized}
 use Rattle.face_poset.specs.Laws.{ReadsAs}
 use Rattle.face_poset.proofs.Members.{members_sorted, differ, holds-from, Contains-from_holds, length-upto}
 use Rattle.face_poset.proofs.Facets.{is_outside, facets_checked, none_twice, distinct_rising}
-use Rattle.face_poset.proofs.BelowLemmas.{length-filter-le}
+use Rattle.face_poset.proofs.BelowLemmas.{length-filter-le, count-few}
 use Rattle.face_poset.proofs.Values.{items-values, as_cell-is, as_list-is}
 use Rattle.face_poset.proofs.LayerLemmas.{trimmed-full, sized-ok, four-ok, space-steps, total_four}
 use Rattle.face_poset.proofs.Spelling.{SpelledAt, Spelled, ListOf, number-spelled, list-spelled}
@@ -124,15 +124,6 @@ cells_valid space h (suc dim) =
     let e : suc dim - 1 ≡ dim = omega arith in
     subst (λ (d : ℕ). All (IsCell (count space d)) (layer space (suc dim))) e (h.cells (suc dim) (omega arith))
 
-count-few : (space : List (List (List ℕ))) → length space ≡ 4 → cell_count space ≤ 60000 → (d : ℕ) → count space d ≤ 60000
-count-few space four few zero = omega arith
-count-few space four few (suc zero) = omega arith
-count-few space four few (suc (suc zero)) = omega arith
-count-few space four few (suc (suc (suc zero))) = omega arith
-count-few space four few (suc (suc (suc (suc d)))) =
-    let none : layer space (suc (suc (suc (suc d)))) ≡ [] = get_or_past space (suc (suc (suc (suc d)))) [] (omega arith) in
-    omega (arith, ap length none)
-
 below-few : (space : List (List (List ℕ))) → IsSpace space → IsLimited space → (dim : ℕ) → below_in space dim ≤ 60000
 below-few space h few zero = omega arith
 below-few space h few (suc dim) = count-few space h.layers few.most dim
@@ -194,12 +185,6 @@ zip_at space a (suc n) (w ∷ ls) h zero l =
 zip_at space a (suc n) (w ∷ ls) h (suc d) l =
     let e : a + 1 + d ≡ a + suc d = omega arith in
     subst (λ (m : ℕ). AllZip (IsCellValue m) (layer space m) (get_or (map inner ls) d [])) e (zip_at space (a + 1) n ls h.1 d (omega arith))
-
--- the dimension is the last one with a cell
-pub record IsDimension (space : List (List (List ℕ))) (n : ℕ) : Type 0 where
-  pub some : 1 ≤ count space n
-  pub last : (d : ℕ) → n < d → count space d ≡ 0
-  pub low : n ≤ 3
 
 past_three : (space : List (List (List ℕ))) → length space ≡ 4 → (d : ℕ) → 3 < d → count space d ≡ 0
 past_three space four d l = ap length (get_or_past space d [] (omega arith))

@@ -1,8 +1,9 @@
 -- What the definitions say of one another.
-use Rattle.std.specs.Prelude.{◌≡◌, ◌↔◌, ℕ, ◌+◌, ◌≤◌, List, Contains, Ok}
+use Rattle.std.specs.Prelude.{◌≡◌, ◌↔◌, ◌⊎◌, ℕ, ◌+◌, ◌<◌, ◌≤◌, List, Contains, AllPairs, Ok}
 use Rattle.std.specs.List.Sorted.{IsStrictlyIncreasing}
 use Rattle.gap_text.specs.Value.{Value}
 use Rattle.gap_text.specs.Reading.{value_of}
+use Rattle.face_poset.specs.declared.cells.Cell.{Cell}
 use Rattle.face_poset.specs.Poset.{count, facets_of, cofaces_of, IsSpace, IsLimited}
 use Rattle.face_poset.specs.Below.{cell_at, closed_cell, IsBelow}
 use Rattle.face_poset.specs.Reader.{space_of}
@@ -23,6 +24,14 @@ pub record CofacesAre (space : List (List (List ℕ))) (dim cell : ℕ) : Type 0
 
 abbrev pub CofacesAreCellsAbove : Type 0
 CofacesAreCellsAbove = (space : List (List (List ℕ))) (dim cell : ℕ) → CofacesAre space dim cell
+
+-- by dimension, then by number
+abbrev pub ComesBefore : Cell → Cell → Type 0
+ComesBefore a b = (a.dim < b.dim) ⊎ ((a.dim ≡ b.dim) × (a.number < b.number))
+
+-- a closed cell is in the order of ids
+abbrev pub ClosedCellIsOrdered : Type 0
+ClosedCellIsOrdered = (space : List (List (List ℕ))) (dim cell : ℕ) → AllPairs ComesBefore (closed_cell space dim cell)
 
 -- a closed cell is the least set that holds the cell and the facets of all its members
 abbrev pub ClosedCellIsLeast : Type 0

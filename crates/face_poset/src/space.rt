@@ -2,8 +2,9 @@ ghost use Rattle.std.specs.Prelude.{◌≡◌, ◌≤◌, IfOk};
 ghost use Rattle.hap_outside.specs.Causes.{HasCause};
 ghost use Rattle.hap_outside.specs.Writes.{Writes};
 ghost use Rattle.face_poset.specs.Text.{boundary_text};
+ghost use Rattle.face_poset.specs.Laws.{ReadsAs};
 ghost use Rattle.face_poset.specs.Below.{closed_cell};
-ghost use Rattle.face_poset.specs.Poset.{count, facets_of, cofaces_of, IsSpace, IsLimited, dimension_of, euler_of};
+ghost use Rattle.face_poset.specs.Poset.{count, facets_of, cofaces_of, IsSpace, IsLimited, dimension_of, IsDimension, euler_of};
 
 use crate::below::push_closure;
 use crate::cells::CellList;
@@ -55,7 +56,7 @@ impl Space {
     /// The greatest dimension that has a cell.
     pub fn dimension(&self) -> u8
         ensures dimension { result ≡ dimension_of self.now }
-        ensures most { result ≤ 3 }
+        ensures greatest { IsDimension self.now result }
     {
         if self.cells(3) > 0 {
             3
@@ -93,6 +94,7 @@ impl Space {
     /// Appends the boundary text of the space, or a prefix of it and fails.
     pub fn print<K: Sink>(&self, sink: &mut K) -> Result<(), Failed>
         ensures bytes { Writes (K.written sink.old) (K.written sink.new) (boundary_text self.now) result }
+        ensures reads { ReadsAs (boundary_text self.now) self.now }
         ensures cause { HasCause (K.faults sink.old) (K.faults sink.new) result }
     {
         write_layers(sink, &self.facets, self.dimension())
