@@ -1,5 +1,5 @@
 -- A cell with all its faces: its order, and that it is the least such set.
-use Rattle.std.proofs.Common.{◌≡◌, ◌≢◌, ◌<◌, ◌≤◌, ◌+◌, ◌-◌, ◌++◌, ◌∷◌, [], ℕ, zero, suc, Bool, true, ◌&&◌, ◌⊎◌, inl, inr, List, get_or, length, map, filter, refl, sym, ◌∙◌, ap, arith, subst, All, AllPairs, Contains}
+use Rattle.std.proofs.Common.{◌≡◌, ◌<◌, ◌≤◌, ◌+◌, ◌-◌, ◌++◌, ◌∷◌, [], ℕ, zero, suc, Bool, true, ◌&&◌, inl, inr, List, get_or, length, map, filter, refl, sym, ◌∙◌, ap, arith, subst, All, AllPairs, Contains}
 use Rattle.std.specs.List.{list_any}
 use Rattle.std.specs.List.Sorted.{IsStrictlyIncreasing}
 use Rattle.std.proofs.lemmas.List.{length-append, length-map, get_or_default, get_or_append_left, get_or-append_right, get_or-map}
@@ -9,7 +9,7 @@ use Rattle.std.proofs.lemmas.List.Elements.{All-append, All-map, Contains-append
 use Rattle.std.proofs.lemmas.List.Folds.{list_any_at}
 use Rattle.face_poset.specs.declared.cells.Cell.{Cell}
 use Rattle.face_poset.specs.Words.{upto, holds}
-use Rattle.face_poset.specs.Poset.{layer, count, facets_of, IsCell, IsSpace}
+use Rattle.face_poset.specs.Poset.{count, facets_of, IsSpace}
 use Rattle.face_poset.specs.Below.{cell_at, facets_of_all, closure, closed_cell, IsBelow, itself, facet}
 use Rattle.face_poset.specs.Laws.{ComesBefore}
 use Rattle.face_poset.proofs.Members.{increasing-upto, holds-upto, holds-filter, holds-from, Contains-from_holds}
@@ -24,13 +24,13 @@ pairs-append R xs ys a b across i j d lt within =
     elim (cases_lt j (length xs)) [
       | inl lj ↦ subst (λ (x : _). R x (get_or (xs ++ ys) j d)) (sym (get_or_append_left xs ys d i (omega arith))) (subst (λ (y : _). R (get_or xs i d) y) (sym (get_or_append_left xs ys d j lj)) (a i j d lt lj))
       | inr gj ↦
-        let right : get_or (xs ++ ys) j d ≡ get_or ys (j - length xs) d = get_or-append_right xs ys (length xs) j d refl gj in
-        elim (cases_lt i (length xs)) [
-          | inl li ↦ subst (λ (x : _). R x (get_or (xs ++ ys) j d)) (sym (get_or_append_left xs ys d i li)) (subst (λ (y : _). R (get_or xs i d) y) (sym right) (across i (j - length xs) d li (omega arith)))
-          | inr gi ↦
-            subst (λ (x : _). R x (get_or (xs ++ ys) j d)) (sym (get_or-append_right xs ys (length xs) i d refl gi))
-            (subst (λ (y : _). R (get_or ys (i - length xs) d) y) (sym right) (b (i - length xs) (j - length xs) d (omega arith) (omega arith)))
-        ]
+          let right : get_or (xs ++ ys) j d ≡ get_or ys (j - length xs) d = get_or-append_right xs ys (length xs) j d refl gj in
+          elim (cases_lt i (length xs)) [
+            | inl li ↦ subst (λ (x : _). R x (get_or (xs ++ ys) j d)) (sym (get_or_append_left xs ys d i li)) (subst (λ (y : _). R (get_or xs i d) y) (sym right) (across i (j - length xs) d li (omega arith)))
+            | inr gi ↦
+                subst (λ (x : _). R x (get_or (xs ++ ys) j d)) (sym (get_or-append_right xs ys (length xs) i d refl gi))
+                (subst (λ (y : _). R (get_or ys (i - length xs) d) y) (sym right) (b (i - length xs) (j - length xs) d (omega arith) (omega arith)))
+          ]
     ]
 
 -- the cells of one dimension, by increasing numbers
@@ -60,9 +60,9 @@ closure-ordered space (suc dim) ns rises =
     (closure-ordered space dim lower (IsStrictlyIncreasing-filter (λ f. list_any (λ c. holds (facets_of space (dim + 1) c) f) ns) (upto (count space dim)) (increasing-upto (count space dim))))
     (cells_ordered (suc dim) ns rises)
     (λ i j d li lj.
-        let a : (get_or (closure space dim lower) i d).dim ≤ dim = closure-low space dim lower i d li in
-        let b : (get_or (map (cell_at (suc dim)) ns) j d).dim ≡ suc dim = all_dim (suc dim) ns j d lj in
-        inl (omega arith))
+    let a : (get_or (closure space dim lower) i d).dim ≤ dim = closure-low space dim lower i d li in
+    let b : (get_or (map (cell_at (suc dim)) ns) j d).dim ≡ suc dim = all_dim (suc dim) ns j d lj in
+    inl (omega arith))
 
 pub closed_cell-ordered : (space : List (List (List ℕ))) (dim cell : ℕ) → AllPairs ComesBefore (closed_cell space dim cell)
 closed_cell-ordered space dim cell = closure-ordered space dim (cell ∷ []) (λ k l. absurd (omega arith))
@@ -107,13 +107,13 @@ closure-below space dim cell (suc e) ns h d n has =
     let lower : List ℕ = facets_of_all space e ns in
     elim (Contains-append_cases (closure space e lower) (map (cell_at (suc e)) ns) (cell_at d n) has) [
       | inl l ↦ closure-below space dim cell e lower
-        (λ f in_lower.
-            let a : (c : ℕ) × Contains ns c × Contains (facets_of space (e + 1) c) f = facets-from space e ns f in_lower in
-            let s : e + 1 ≡ suc e = omega arith in
-            facet e a.0 f (h a.0 a.1) (subst (λ (m : ℕ). Contains (facets_of space m a.0) f) s a.2)) d n l
+          (λ f in_lower.
+          let a : (c : ℕ) × Contains ns c × Contains (facets_of space (e + 1) c) f = facets-from space e ns f in_lower in
+          let s : e + 1 ≡ suc e = omega arith in
+          facet e a.0 f (h a.0 a.1) (subst (λ (m : ℕ). Contains (facets_of space m a.0) f) s a.2)) d n l
       | inr r ↦
-        let at : (d ≡ suc e) × Contains ns n = in_cells (suc e) ns d n r in
-        subst (λ (m : ℕ). IsBelow space dim cell m n) (sym at.0) (h n at.1)
+          let at : (d ≡ suc e) × Contains ns n = in_cells (suc e) ns d n r in
+          subst (λ (m : ℕ). IsBelow space dim cell m n) (sym at.0) (h n at.1)
     ]
 
 -- a closure has its first cells
@@ -133,11 +133,11 @@ closure-facets space (suc e) ns h valid d c f has below =
     (elim (Contains-append_cases (closure space e lower) (map (cell_at (suc e)) ns) (cell_at (suc d) c) has) [
       | inl l ↦ closure-facets space e lower h (facets_within space e ns) d c f l below
       | inr r ↦
-        let at : (suc d ≡ suc e) × Contains ns c = in_cells (suc e) ns (suc d) c r in
-        let same : d ≡ e = let q : suc d ≡ suc e = at.0 in omega arith in
-        let s' : suc d ≡ e + 1 = omega arith in
-        subst (λ (m : ℕ). Contains (closure space e lower) (cell_at m f)) (sym same)
-        (closure-first space e lower f (facets-has space e ns c f h valid' at.1 (subst (λ (m : ℕ). Contains (facets_of space m c) f) s' below)))
+          let at : (suc d ≡ suc e) × Contains ns c = in_cells (suc e) ns (suc d) c r in
+          let same : d ≡ e = let q : suc d ≡ suc e = at.0 in omega arith in
+          let s' : suc d ≡ e + 1 = omega arith in
+          subst (λ (m : ℕ). Contains (closure space e lower) (cell_at m f)) (sym same)
+          (closure-first space e lower f (facets-has space e ns c f h valid' at.1 (subst (λ (m : ℕ). Contains (facets_of space m c) f) s' below)))
     ])
 
 pub closed_cell-least : (space : List (List (List ℕ))) (dim cell : ℕ) → IsSpace space → 1 ≤ cell → cell ≤ count space dim → (d n : ℕ)
@@ -147,9 +147,11 @@ closed_cell-least space dim cell h low high d n = (closure-below space dim cell 
     only : (c : ℕ) → Contains (cell ∷ []) c → IsBelow space dim cell dim c
     only c (zero, l, e) = subst (IsBelow space dim cell dim) e itself
     only c (suc k, l, e) = absurd (omega arith)
+
     one : All (λ m. (1 ≤ m) × (m ≤ count space dim)) (cell ∷ [])
     one zero z l = (low, high)
     one (suc k) z l = absurd (omega arith)
+
     has : (e m : ℕ) → IsBelow space dim cell e m → Contains (closed_cell space dim cell) (cell_at e m)
     has e m itself = closure-first space dim (cell ∷ []) cell (0, omega arith, refl)
     has e m (facet _ c _ b below) = closure-facets space dim (cell ∷ []) h one e c m (has (suc e) c b) below

@@ -1,5 +1,5 @@
 -- Lemmas on a cell with all its faces.
-use Rattle.std.proofs.Common.{◌≡◌, ◌≢◌, ◌<◌, ◌≤◌, ◌+◌, ◌-◌, ◌++◌, ◌∷◌, [], ℕ, zero, suc, Bool, true, false, cond, ◌&&◌, ◌||◌, List, length, get_or, map, filter, refl, sym, ◌∙◌, ap, arith, subst, All, Any, Contains, eqb, ◌*◌, mul-le-mul_right}
+use Rattle.std.proofs.Common.{◌≡◌, ◌≢◌, ◌≤◌, ◌+◌, ◌-◌, ◌++◌, ◌∷◌, [], ℕ, zero, suc, Bool, true, false, cond, ◌||◌, List, length, get_or, map, filter, refl, ◌∙◌, ap, arith, subst, All, Any, Contains, eqb, ◌*◌, mul-le-mul_right}
 use Rattle.std.specs.List.{flat_map, list_any}
 use Rattle.std.specs.List.Sorted.{IsStrictlyIncreasing}
 use Rattle.std.proofs.lemmas.List.{length-append, length-map, get_or_past}
@@ -9,7 +9,7 @@ use Rattle.face_poset.specs.declared.cells.Cell.{Cell}
 use Rattle.face_poset.specs.Words.{upto, holds}
 use Rattle.face_poset.specs.Poset.{layer, count, cell_count, facets_of, IsCell, IsSpace}
 use Rattle.face_poset.specs.Below.{cell_at, facets_of_all, closure}
-use Rattle.face_poset.proofs.Members.{members_sorted, holds-from, Contains-from_holds, same_holds, All-upto, length-upto}
+use Rattle.face_poset.proofs.Members.{members_sorted, Contains-from_holds, same_holds, All-upto, length-upto}
 
 pub closure-step : (space : List (List (List ℕ))) (dim : ℕ) (cells : List ℕ) → dim ≢ 0 → closure space dim cells ≡ closure space (dim - 1) (facets_of_all space (dim - 1) cells) ++ map (cell_at dim) cells
 closure-step space zero cells ne = absurd (ne refl)
@@ -42,12 +42,12 @@ sorted_facets space dim cells all xs h valid e rises keeps adds =
     members_sorted xs p (count space dim) rises
     (λ n. same_holds xs all n (adds n) (keeps n) ∙ (ap (λ (ys : List ℕ). holds ys n) e ∙ holds-flat_map (λ c. facets_of space (dim + 1) c) cells n))
     (λ n yes.
-        let a : (c : ℕ) × Contains cells c × (holds (facets_of space (dim + 1) c) n ≡ true) = any_at (λ c. holds (facets_of space (dim + 1) c) n) cells yes in
-        let at : Contains cells a.0 = a.1 in
-        let w : (1 ≤ get_or cells at.0 a.0) × (get_or cells at.0 a.0 ≤ count space (dim + 1)) = valid at.0 a.0 at.1 in
-        let v : (1 ≤ a.0) × (a.0 ≤ count space (dim + 1)) = subst (λ (m : ℕ). (1 ≤ m) × (m ≤ count space (dim + 1))) at.2 w in
-        let r : (1 ≤ n) × (n ≤ count space (dim + 1 - 1)) = facet_within space (dim + 1) a.0 n h (omega arith) v.0 v.1 (Contains-from_holds (facets_of space (dim + 1) a.0) n a.2) in
-        subst (λ (m : ℕ). (1 ≤ n) × (n ≤ count space m)) (let q : dim + 1 - 1 ≡ dim = omega arith in q) r)
+    let a : (c : ℕ) × Contains cells c × (holds (facets_of space (dim + 1) c) n ≡ true) = any_at (λ c. holds (facets_of space (dim + 1) c) n) cells yes in
+    let at : Contains cells a.0 = a.1 in
+    let w : (1 ≤ get_or cells at.0 a.0) × (get_or cells at.0 a.0 ≤ count space (dim + 1)) = valid at.0 a.0 at.1 in
+    let v : (1 ≤ a.0) × (a.0 ≤ count space (dim + 1)) = subst (λ (m : ℕ). (1 ≤ m) × (m ≤ count space (dim + 1))) at.2 w in
+    let r : (1 ≤ n) × (n ≤ count space (dim + 1 - 1)) = facet_within space (dim + 1) a.0 n h (omega arith) v.0 v.1 (Contains-from_holds (facets_of space (dim + 1) a.0) n a.2) in
+    subst (λ (m : ℕ). (1 ≤ n) × (n ≤ count space m)) (let q : dim + 1 - 1 ≡ dim = omega arith in q) r)
 
 pub length-filter-le : {X : Type 0} (p : X → Bool) (xs : List X) → length (filter p xs) ≤ length xs
 length-filter-le p [] = omega arith

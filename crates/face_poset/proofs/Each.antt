@@ -1,5 +1,5 @@
 -- Lemmas on answers one after another.
-use Rattle.std.proofs.Common.{◌≡◌, ◌<◌, ◌≤◌, ◌+◌, ◌-◌, ◌++◌, ◌∷◌, [], ℕ, zero, suc, List, length, get_or, take, drop, refl, sym, ◌∙◌, ap, arith, subst, Result, Ok, Err, Option, Some, None, slice_get}
+use Rattle.std.proofs.Common.{◌≡◌, ◌<◌, ◌+◌, ◌++◌, ◌∷◌, [], ℕ, suc, List, length, take, drop, refl, sym, ◌∙◌, ap, arith, Result, Ok, Err, Some, slice_get}
 use Rattle.std.proofs.lemmas.List.{take_more, drop_more, take-append-drop, length-take-le}
 use Rattle.std.proofs.lemmas.Option.{get_or_from_slice_get}
 use Rattle.face_poset.specs.declared.fault.SpaceFault.{SpaceFault}

@@ -1,10 +1,10 @@
 -- Lemmas on the facets of a cell that is read.
-use Rattle.std.proofs.Common.{◌≡◌, ◌≢◌, ◌<◌, ◌≤◌, ◌+◌, ◌-◌, ◌++◌, ◌∷◌, [], ℕ, zero, suc, Bool, true, false, not, cond, ◌||◌, eqb, ltb, List, inl, inr, length, get_or, take, drop, filter, refl, sym, ◌∙◌, ap, arith, subst, All, Contains, Result, Ok, Err, IsPermutation}
+use Rattle.std.proofs.Common.{◌≡◌, ◌≢◌, ◌<◌, ◌≤◌, ◌+◌, ◌++◌, ◌∷◌, [], ℕ, zero, suc, Bool, true, false, not, cond, ◌||◌, eqb, ltb, List, inl, inr, length, get_or, take, filter, refl, sym, ◌∙◌, ap, arith, Contains, Ok, Err, IsPermutation}
 use Rattle.std.specs.List.{list_any, IsDistinct, refill, AllByRecursion}
 use Rattle.std.specs.List.Sorted.{IsStrictlyIncreasing, IsNonDecreasing}
-use Rattle.std.proofs.lemmas.Bool.{eqb-true, eq-eqb, eqb-false, ltb-false, false≢true}
+use Rattle.std.proofs.lemmas.Bool.{eq-eqb, eqb-false, ltb-false, false≢true}
 use Rattle.std.proofs.lemmas.Bool.Decides.{eqb_tells}
-use Rattle.std.proofs.lemmas.List.{get_or_default, take_all, append-nil, drop_all}
+use Rattle.std.proofs.lemmas.List.{take_all, append-nil, drop_all}
 use Rattle.std.proofs.lemmas.List.Folds.{list_any_at}
 use Rattle.std.proofs.lemmas.List.Elements.{recursion_from_All}
 use Rattle.std.proofs.lemmas.List.Sorted.{Contains-permutation, IsPermutation-sym}
@@ -13,7 +13,7 @@ use Rattle.face_poset.specs.declared.fault.SpaceFault.TheVariants.{BadCount, Fac
 use Rattle.face_poset.specs.Words.{upto, holds}
 use Rattle.face_poset.specs.Below.{cell_at}
 use Rattle.face_poset.specs.Reader.{repeats, facets_from}
-use Rattle.face_poset.proofs.Members.{differ, holds-none, Contains-from_holds, same_holds, increasing_head, increasing_tail, members_sorted}
+use Rattle.face_poset.proofs.Members.{differ, Contains-from_holds, same_holds, increasing_head, increasing_tail, members_sorted}
 
 -- a number that is 0 or above `below`
 abbrev pub is_outside : ℕ → ℕ → Bool

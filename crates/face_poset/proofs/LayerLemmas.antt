@@ -1,23 +1,21 @@
 -- Lemmas on the layers of a boundary list.
-use Rattle.std.proofs.Common.{◌≡◌, ◌≢◌, ◌<◌, ◌≤◌, ◌+◌, ◌-◌, ◌*◌, ◌++◌, ◌∷◌, [], ℕ, zero, suc, Bool, true, false, not, cond, ◌||◌, ◌&&◌, eqb, ltb, List, length, get_or, take, drop, map, filter, sum_by, refl, sym, ◌∙◌, ap, arith, subst, All, Contains, Result, Ok, Err, Some, slice_get}
+use Rattle.std.proofs.Common.{◌≡◌, ◌<◌, ◌≤◌, ◌+◌, ◌-◌, ◌++◌, ◌∷◌, [], ℕ, zero, suc, Bool, true, false, not, cond, ◌||◌, ◌&&◌, eqb, ltb, List, length, get_or, take, map, filter, sum_by, refl, sym, ◌∙◌, ap, arith, subst, All, Contains, Result, Ok, Err, Some, slice_get}
 use Rattle.std.specs.List.{list_any}
-use Rattle.std.specs.List.Sorted.{IsStrictlyIncreasing}
-use Rattle.std.proofs.lemmas.Bool.{eqb-true, eq-eqb, eqb-false, ltb-false, ltb-true, lt-ltb, le-ltb, false≢true}
-use Rattle.std.proofs.lemmas.List.{map-append, length-map, length-append, take_all, get_or_past, length_push}
+use Rattle.std.proofs.lemmas.Bool.{eq-eqb, lt-ltb, le-ltb, false≢true}
+use Rattle.std.proofs.lemmas.List.{map-append, length-map, get_or_past, length_push}
 use Rattle.std.proofs.lemmas.List.Kept.{IsStrictlyIncreasing-filter}
 use Rattle.std.proofs.lemmas.List.Elements.{All-nil, All-cons, All-filter}
-use Rattle.std.proofs.lemmas.List.Sums.{sum_by-cons}
-use Rattle.gap_text.specs.Value.{Value, number, list}
+use Rattle.gap_text.specs.Value.{Value}
 use Rattle.face_poset.specs.declared.fault.SpaceFault.{SpaceFault}
 use Rattle.face_poset.specs.declared.fault.SpaceFault.TheVariants.{Empty, TooHigh, TooManyCells, BadCount, FaceOutOfRange, RepeatedFace}
 use Rattle.face_poset.specs.Words.{upto, holds}
-use Rattle.face_poset.specs.Poset.{layer, count, cell_count, IsCell, IsSpace, IsLimited}
+use Rattle.face_poset.specs.Poset.{layer, count, IsCell, IsSpace, IsLimited}
 use Rattle.face_poset.specs.Reader.{and_then, each_from, as_list, as_cell, is_vertex, facets_from, cell_from, layer_from, layers_from, cells_in, keep_before, trimmed, sized, space_of, repeats}
 use Rattle.face_poset.specs.Layers.{inner, kept, IsSized}
 use Rattle.face_poset.specs.Below.{cell_at}
 use Rattle.face_poset.proofs.Facets.{is_outside, inside, or_parts}
 use Rattle.face_poset.proofs.Each.{both_ok}
-use Rattle.face_poset.proofs.Members.{differ, increasing-upto, All-upto, holds-upto, holds-filter, Contains-from_holds, holds-from}
+use Rattle.face_poset.proofs.Members.{differ, increasing-upto, All-upto, holds-upto, holds-filter, Contains-from_holds}
 
 -- the empty layers at the end
 
@@ -145,7 +143,7 @@ some_facet t below (f ∷ fs) count none =
     let has : holds (f ∷ fs) f ≡ true = ap (λ (c : Bool). c || holds fs f) (eq-eqb f f refl) in
     let w : (1 ≤ f) × (f ≤ below) = inside below (f ∷ fs) f none has in
     let kept : holds (filter (holds (f ∷ fs)) (upto below)) f ≡ true =
-        holds-filter (holds (f ∷ fs)) (upto below) f ∙ (ap (λ (c : Bool). c && holds (upto below) f) has ∙ holds-upto below f w.0 w.1) in
+    holds-filter (holds (f ∷ fs)) (upto below) f ∙ (ap (λ (c : Bool). c && holds (upto below) f) has ∙ holds-upto below f w.0 w.1) in
     let at : Contains (filter (holds (f ∷ fs)) (upto below)) f = Contains-from_holds (filter (holds (f ∷ fs)) (upto below)) f kept in
     omega (arith, at.1)
 
@@ -154,9 +152,9 @@ facets-ok dim below n [] answer h = cc
 facets-ok dim below n (t ∷ fs) answer h =
     let sorted : List ℕ = filter (holds fs) (upto below) in
     let a : ((eqb t 0 || not (eqb t (length fs))) ≡ false) × (cond (list_any (is_outside below) fs) (Err (FaceOutOfRange (cell_at (suc dim) n))) (cond (repeats fs) (Err (RepeatedFace (cell_at (suc dim) n))) (Ok sorted)) ≡ Ok answer) =
-        unless_ok (eqb t 0 || not (eqb t (length fs))) (BadCount (cell_at (suc dim) n)) (cond (list_any (is_outside below) fs) (Err (FaceOutOfRange (cell_at (suc dim) n))) (cond (repeats fs) (Err (RepeatedFace (cell_at (suc dim) n))) (Ok sorted))) answer h in
+    unless_ok (eqb t 0 || not (eqb t (length fs))) (BadCount (cell_at (suc dim) n)) (cond (list_any (is_outside below) fs) (Err (FaceOutOfRange (cell_at (suc dim) n))) (cond (repeats fs) (Err (RepeatedFace (cell_at (suc dim) n))) (Ok sorted))) answer h in
     let b : (list_any (is_outside below) fs ≡ false) × (cond (repeats fs) (Err (RepeatedFace (cell_at (suc dim) n))) (Ok sorted) ≡ Ok answer) =
-        unless_ok (list_any (is_outside below) fs) (FaceOutOfRange (cell_at (suc dim) n)) (cond (repeats fs) (Err (RepeatedFace (cell_at (suc dim) n))) (Ok sorted)) answer a.1 in
+    unless_ok (list_any (is_outside below) fs) (FaceOutOfRange (cell_at (suc dim) n)) (cond (repeats fs) (Err (RepeatedFace (cell_at (suc dim) n))) (Ok sorted)) answer a.1 in
     let d : (repeats fs ≡ false) × (Ok sorted ≡ Ok answer) = unless_ok (repeats fs) (RepeatedFace (cell_at (suc dim) n)) (Ok sorted) answer b.1 in
     let e : Ok sorted ≡ Ok answer = d.1 in
     let is : sorted ≡ answer = cc in
@@ -239,14 +237,15 @@ space_valid tops space size h =
     let cd : All (IsCell (length f.c)) f.d = layer-cells 2 (length f.c) (cells_in ls 3) f.d f.d-is in
     let few : length f.a + length f.b + length f.c + length f.d ≤ 60000 = omega (arith, total_four ls size.low, size.few) in
     let here : List (List (List ℕ)) = f.a ∷ f.b ∷ f.c ∷ f.d ∷ [] in
-    subst (λ (s : List (List (List ℕ))). IsSpace s × IsLimited s) (sym f.is)
-    ( record {
+    subst (λ (s : List (List (List ℕ))). IsSpace s × IsLimited s) (sym f.is) (
+      record {
         layers = refl;
         vertices = layer-vertices 0 (cells_in ls 0) f.a f.a-is;
         cells = λ dim low. cells_at f.a f.b f.c f.d ab bc cd dim low;
         few = omega arith;
-      }
-    , record { vertex = some_vertex ls f.a f.b f.c f.d la lb lc ld ab bc cd size (trimmed-last (map inner tops) size.some); most = few })
+      },
+      record { vertex = some_vertex ls f.a f.b f.c f.d la lb lc ld ab bc cd size (trimmed-last (map inner tops) size.some); most = few },
+    )
   where
     cells_at : (a b c d : List (List ℕ)) → All (IsCell (length a)) b → All (IsCell (length b)) c → All (IsCell (length c)) d
         → (dim : ℕ) → 1 ≤ dim → All (IsCell (count (a ∷ b ∷ c ∷ d ∷ []) (dim - 1))) (layer (a ∷ b ∷ c ∷ d ∷ []) dim)
@@ -255,12 +254,14 @@ space_valid tops space size h =
     cells_at a b c d p q r (suc (suc zero)) low = q
     cells_at a b c d p q r (suc (suc (suc zero))) low = r
     cells_at a b c d p q r (suc (suc (suc (suc dim)))) low = All-nil (IsCell (count (a ∷ b ∷ c ∷ d ∷ []) (suc (suc (suc (suc dim))) - 1)))
+
     at_most : (ls : List (List Value)) (k : ℕ) → k ≤ 3 → length (cells_in ls k) ≤ length (cells_in ls 0) + length (cells_in ls 1) + length (cells_in ls 2) + length (cells_in ls 3)
     at_most ls zero h = omega arith
     at_most ls (suc zero) h = omega arith
     at_most ls (suc (suc zero)) h = omega arith
     at_most ls (suc (suc (suc zero))) h = omega arith
     at_most ls (suc (suc (suc (suc k)))) h = absurd (omega arith)
+
     some_vertex : (ls : List (List Value)) (a b c d : List (List ℕ)) → length a ≡ length (cells_in ls 0) → length b ≡ length (cells_in ls 1) → length c ≡ length (cells_in ls 2) → length d ≡ length (cells_in ls 3)
         → All (IsCell (length a)) b → All (IsCell (length b)) c → All (IsCell (length c)) d → IsSized ls → 1 ≤ length (get_or ls (length ls - 1) []) → 1 ≤ length a
     some_vertex ls [] b c d la lb lc ld p q r size last =

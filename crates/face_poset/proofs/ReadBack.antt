@@ -1,24 +1,23 @@
 -- What was printed reads as the space again.
-use Rattle.std.proofs.Common.{◌≡◌, ◌≢◌, ◌<◌, ◌≤◌, ◌+◌, ◌-◌, ◌^◌, ◌++◌, ◌∷◌, [], ℕ, zero, suc, Bool, true, false, cond, ◌||◌, eqb, leb, ltb, List, length, get_or, map, filter, sum_by, refl, sym, ◌∙◌, ap, arith, subst, decimal, Result, Ok, Err, All, codes}
-use Rattle.std.specs.List.{AllZip, AllByRecursion, list_any, range_with_len}
-use Rattle.std.proofs.lemmas.Bool.{le-leb, lt-leb, leb-true, leb-false, le-ltb, false≢true}
+use Rattle.std.proofs.Common.{◌≡◌, ◌≢◌, ◌<◌, ◌≤◌, ◌+◌, ◌-◌, ◌++◌, ◌∷◌, [], ℕ, zero, suc, Bool, true, false, cond, ◌||◌, leb, ltb, List, length, get_or, map, filter, sum_by, refl, sym, ◌∙◌, ap, arith, subst, decimal, Result, Ok, All, codes}
+use Rattle.std.specs.List.{AllZip, AllByRecursion, range_with_len}
+use Rattle.std.proofs.lemmas.Bool.{leb-true, leb-false, le-ltb}
 use Rattle.std.proofs.lemmas.List.{get_or_past, nil_from_length, length-map}
 use Rattle.std.proofs.lemmas.List.Folds.{list_any_none}
 use Rattle.std.proofs.lemmas.List.Elements.{All-tail}
 use Rattle.std.proofs.lemmas.List.FromFn.{length-range_with_len}
 use Rattle.std.proofs.lemmas.Fmt.{decimal_digit}
-use Rattle.gap_text.specs.Value.{Value, Values, number, list, none, more, items, values}
+use Rattle.gap_text.specs.Value.{Value}
 use Rattle.gap_text.specs.Grammar.{IsValueOf, Lexes, nothing, blank, plain}
-use Rattle.gap_text.specs.Reading.{value_of}
 use Rattle.gap_text.proofs.Joined.{value_of-spelled}
 use Rattle.face_poset.specs.declared.fault.SpaceFault.{SpaceFault}
 use Rattle.face_poset.specs.Words.{upto, holds}
-use Rattle.face_poset.specs.Poset.{layer, count, cell_count, dimension_of, IsDimension, IsCell, IsSpace, IsLimited}
+use Rattle.face_poset.specs.Poset.{layer, count, dimension_of, IsDimension, IsCell, IsSpace, IsLimited}
 use Rattle.face_poset.specs.Text.{brackets, cell_text, layer_text, layer_texts, boundary_text}
-use Rattle.face_poset.specs.Reader.{and_then, each_from, as_list, as_number, as_cell, facets_from, cell_from, layer_from, layers_from, cells_in, trimmed, sized, space_of, repeats}
-use Rattle.face_poset.specs.Layers.{inner, kept, IsSized}
+use Rattle.face_poset.specs.Reader.{and_then, each_from, as_list, as_number, as_cell, facets_from, cell_from, layer_from, layers_from, trimmed, sized, space_of}
+use Rattle.face_poset.specs.Layers.{inner, IsSized}
 use Rattle.face_poset.specs.Laws.{ReadsAs}
-use Rattle.face_poset.proofs.Members.{members_sorted, differ, holds-from, Contains-from_holds, length-upto}
+use Rattle.face_poset.proofs.Members.{members_sorted, differ, Contains-from_holds, length-upto}
 use Rattle.face_poset.proofs.Facets.{is_outside, facets_checked, none_twice, distinct_rising}
 use Rattle.face_poset.proofs.BelowLemmas.{length-filter-le, count-few}
 use Rattle.face_poset.proofs.Values.{items-values, as_cell-is, as_list-is}
@@ -77,7 +76,7 @@ facets_few : (below : ℕ) (facets : List ℕ) → IsCell below facets → facet
 facets_few below facets h =
     members_sorted facets (holds facets) below h.rises (λ n. refl)
     (λ n has. let at = Contains-from_holds facets n has in
-        subst (λ (m : ℕ). (1 ≤ m) × (m ≤ below)) at.2 (h.within at.0 n at.1))
+    subst (λ (m : ℕ). (1 ≤ m) × (m ≤ below)) at.2 (h.within at.0 n at.1))
 
 facets_long : (below : ℕ) (facets : List ℕ) → IsCell below facets → length facets ≤ below
 facets_long below facets h = omega (arith, ap length (facets_few below facets h), length-filter-le (holds facets) (upto below), length-upto below)
@@ -209,6 +208,7 @@ dimension-is space four vertex = by_three (leb 1 (count space 3)) refl
         above (suc (suc zero)) l = z2
         above (suc (suc (suc zero))) l = z3
         above (suc (suc (suc (suc d)))) l = past_three space four (suc (suc (suc (suc d)))) (omega arith)
+
     by_two : (b : Bool) → leb 1 (count space 2) ≡ b → count space 3 ≡ 0 → IsDimension space (cond b 2 (cond (leb 1 (count space 1)) 1 0))
     by_two true e z3 = record { some = leb-true 1 (count space 2) e; last = λ d l. above d l; low = omega arith }
       where
@@ -219,6 +219,7 @@ dimension-is space four vertex = by_three (leb 1 (count space 3)) refl
         above (suc (suc (suc zero))) l = z3
         above (suc (suc (suc (suc d)))) l = past_three space four (suc (suc (suc (suc d)))) (omega arith)
     by_two false e z3 = by_one (leb 1 (count space 1)) refl z3 (let m : count space 2 < 1 = leb-false 1 (count space 2) e in let z : count space 2 ≡ 0 = omega arith in z)
+
     by_three : (b : Bool) → leb 1 (count space 3) ≡ b → IsDimension space (cond b 3 (cond (leb 1 (count space 2)) 2 (cond (leb 1 (count space 1)) 1 0)))
     by_three true e = record { some = leb-true 1 (count space 3) e; last = λ d l. past_three space four d l; low = omega arith }
     by_three false e = by_two (leb 1 (count space 2)) refl (let m : count space 3 < 1 = leb-false 1 (count space 3) e in let z : count space 3 ≡ 0 = omega arith in z)
@@ -234,6 +235,7 @@ layers-of space n ls h zip = record { at = λ d. by_test d (leb d n) refl }
   where
     long : length (map inner ls) ≡ n + 1
     long = length-map ls inner ∙ (zip_long (IsLayerValue space) (range_with_len 0 (n + 1)) ls zip ∙ length-range_with_len 0 (n + 1))
+
     by_test : (d : ℕ) (b : Bool) → leb d n ≡ b → AllZip (IsCellValue d) (layer space d) (get_or (map inner ls) d [])
     by_test d true e =
         let le : d ≤ n = leb-true d n e in
@@ -272,7 +274,7 @@ value_read space n v h few dim l =
     let last : 1 ≤ length (get_or layers (length layers - 1) []) = subst (λ (m : ℕ). 1 ≤ length (get_or layers m [])) (sym end) (omega (arith, count-is n, dim.some)) in
     let whole : trimmed layers ≡ layers = trimmed-full layers last in
     let total : sum_by (λ cells. length cells) layers ≤ 60000 =
-        omega (arith, total_four layers (omega arith), count-is 0, count-is 1, count-is 2, count-is 3, few.most) in
+    omega (arith, total_four layers (omega arith), count-is 0, count-is 1, count-is 2, count-is 3, few.most) in
     let size : IsSized layers = record { some = omega arith; low = omega arith; few = total } in
     space-steps v l.items (ap as_list l.is ∙ as_list-is l.place l.items) (zip_lists space 0 (range_with_len 0 (n + 1)) l.items l.each)
     ∙ (ap sized whole ∙ (sized-ok layers size ∙ read_layers space layers h at))
@@ -284,7 +286,7 @@ reads_back space h few =
     let text : List ℕ = brackets (layer_texts space (n + 1)) in
     let end : Lexes (0 + length text) (10 ∷ []) [] = blank refl nothing in
     let s : SpelledAt 3 0 (text ++ 10 ∷ []) [] (ListOf (IsLayerValue space) (range_with_len 0 (n + 1))) =
-        list-spelled (λ d. layer_text d (layer space d)) (IsLayerValue space) 2 (range_with_len 0 (n + 1)) (all_layers space h few 0 (n + 1)) 0 (10 ∷ []) [] refl end in
+    list-spelled (λ d. layer_text d (layer space d)) (IsLayerValue space) 2 (range_with_len 0 (n + 1)) (all_layers space h few 0 (n + 1)) 0 (10 ∷ []) [] refl end in
     let spelled : IsValueOf (boundary_text space) s.value = record {
       tokens = s.tokens;
       lexes = s.lexes;

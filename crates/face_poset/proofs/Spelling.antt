@@ -1,13 +1,13 @@
 -- The boundary text in the grammar of texts: which tokens it has, and which value they spell.
-use Rattle.std.proofs.Common.{◌≡◌, ◌<◌, ◌≤◌, ◌+◌, ◌-◌, ◌*◌, ◌/◌, ◌%◌, ◌^◌, ◌++◌, ◌∷◌, [], ℕ, zero, suc, Bool, true, false, ◌&&◌, List, length, map, refl, sym, ◌∙◌, ap, arith, subst, append_assoc, decimal, Ok, leb}
+use Rattle.std.proofs.Common.{◌≡◌, ◌<◌, ◌≤◌, ◌+◌, ◌-◌, ◌*◌, ◌/◌, ◌%◌, ◌^◌, ◌++◌, ◌∷◌, [], ℕ, suc, Bool, true, ◌&&◌, List, length, map, refl, sym, ◌∙◌, ap, arith, subst, append_assoc, decimal, Ok, leb}
 use Rattle.std.specs.List.{list_all, AllZip, AllByRecursion}
 use Rattle.std.proofs.lemmas.Bool.{le-leb}
 use Rattle.std.proofs.lemmas.List.{length-append}
 use Rattle.std.proofs.lemmas.List.Folds.{list_all-append}
 use Rattle.std.proofs.lemmas.Fmt.{decimal_by_steps}
-use Rattle.gap_text.specs.Value.{Value, Values, number, list, none, more, values, depth, deepest}
+use Rattle.gap_text.specs.Value.{Value, number, list, none, values, depth, deepest}
 use Rattle.gap_text.specs.Tokens.{Token, Open, Close, Comma, Number, is_digit, too_big}
-use Rattle.gap_text.specs.Grammar.{decimal_from, EndsDigits, Lexes, nothing, blank, open_bracket, close_bracket, a_comma, digits, Reads, ReadsItems, a_number, an_empty, a_list, the_last, and_more}
+use Rattle.gap_text.specs.Grammar.{decimal_from, EndsDigits, Lexes, open_bracket, close_bracket, a_comma, digits, Reads, ReadsItems, a_number, an_empty, a_list, the_last, and_more}
 use Rattle.face_poset.specs.Text.{commas, brackets}
 use Rattle.face_poset.specs.Reader.{as_number}
 

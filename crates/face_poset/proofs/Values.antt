@@ -1,6 +1,6 @@
 -- Lemmas on nested values.
-use Rattle.std.proofs.Common.{◌≡◌, ◌<◌, ◌∷◌, [], ℕ, List, length, refl, sym, ◌∙◌, ap, arith, Result, Ok, Err}
-use Rattle.gap_text.specs.Value.{Value, Values, number, list, none, more, items, values}
+use Rattle.std.proofs.Common.{◌≡◌, ◌<◌, ◌∷◌, [], ℕ, List, length, refl, ap, arith, Ok}
+use Rattle.gap_text.specs.Value.{Value, list, items, values}
 use Rattle.face_poset.specs.Reader.{each_from, as_number, as_list, as_cell}
 
 pub items-values : (vs : List Value) → items (values vs) ≡ vs

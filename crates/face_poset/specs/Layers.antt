@@ -1,5 +1,5 @@
 -- The layers of a boundary list, where the code has found them to be lists.
-use Rattle.std.specs.Prelude.{ℕ, ◌≤◌, List, [], length, sum_by, map}
+use Rattle.std.specs.Prelude.{◌≤◌, List, [], length, sum_by, map}
 use Rattle.gap_text.specs.Value.{Value, number, list, items}
 use Rattle.face_poset.specs.Reader.{trimmed}
 

@@ -2,7 +2,7 @@ ghost use Rattle.std.specs.Prelude.{◌≡◌, ℕ, ◌≤◌, ◌<◌, ◌+◌,
 ghost use Rattle.face_poset.specs.Poset.{layer, count, cell_count, IsCell};
 
 use crate::lists::Lists;
-use crate::space::Space;
+use crate::space::{MOST_CELLS, Space};
 use std::alloc::{AllocError, Global};
 use std::marker::Model;
 use thiserror::Error;
@@ -69,8 +69,11 @@ impl Builder {
         ensures only_full { result ≡ Err BuildFault.TooManyCells → cell_count self.old ≡ 60000 }
         ensures unchanged { OnErr result (self.new ≡ self.old) }
     {
-        let standing = self.facets[0].len() + self.facets[1].len() + self.facets[2].len() + self.facets[3].len();
-        if standing >= 60000 {
+        let standing = self.facets[0].len()
+            + self.facets[1].len()
+            + self.facets[2].len()
+            + self.facets[3].len();
+        if standing >= MOST_CELLS {
             return Err(BuildFault::TooManyCells);
         }
         let layer = &mut self.facets[dim as usize];

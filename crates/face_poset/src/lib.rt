@@ -22,6 +22,11 @@ pub use builder::{BuildFault, Builder};
 pub use cells::{Cell, CellList, Pair};
 pub use fault::SpaceFault;
 pub use graded::{Graded, Signed};
-pub use laws::{closed_cell_is_least, closed_cell_is_ordered, cofaces_are_cells_above, text_reads_back};
+pub use laws::{
+    closed_cell_is_least, closed_cell_is_ordered, cofaces_are_cells_above, text_reads_back,
+};
 pub use reader::from_nest;
 pub use space::Space;
+
+#[cfg(test)]
+mod tests;

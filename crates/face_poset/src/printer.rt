@@ -42,12 +42,7 @@ fn write_items<K: Sink>(sink: &mut K, layers: &[Lists; 4], dimension: u8) -> Res
 }
 
 /// Appends the text of a layer after a lead.
-fn write_layer<K: Sink>(
-    sink: &mut K,
-    lead: &[u8],
-    dim: u8,
-    cells: &Lists,
-) -> Result<(), Failed>
+fn write_layer<K: Sink>(sink: &mut K, lead: &[u8], dim: u8, cells: &Lists) -> Result<(), Failed>
     ensures bytes { Writes (K.written sink.old) (K.written sink.new) (lead.now ++ layer_text dim cells.now) result }
     ensures cause { HasCause (K.faults sink.old) (K.faults sink.new) result }
 {
@@ -76,12 +71,7 @@ fn write_cells<K: Sink>(sink: &mut K, dim: u8, cells: &Lists) -> Result<(), Fail
 }
 
 /// Appends the text of a cell after a lead.
-fn write_cell<K: Sink>(
-    sink: &mut K,
-    lead: &[u8],
-    dim: u8,
-    facets: &[u32],
-) -> Result<(), Failed>
+fn write_cell<K: Sink>(sink: &mut K, lead: &[u8], dim: u8, facets: &[u32]) -> Result<(), Failed>
     ensures bytes { Writes (K.written sink.old) (K.written sink.new) (lead.now ++ cell_text dim facets.now) result }
     ensures cause { HasCause (K.faults sink.old) (K.faults sink.new) result }
 {
@@ -132,8 +122,5 @@ fn write_facet<K: Sink>(sink: &mut K, facet: u32) -> Result<(), Failed>
     ensures bytes { Writes (K.written sink.old) (K.written sink.new) (44 ∷ decimal facet) result }
     ensures cause { HasCause (K.faults sink.old) (K.faults sink.new) result }
 {
-    write_pieces(
-        sink,
-        &[Piece::Text(b","), Piece::Number(i128::from(facet))],
-    )
+    write_pieces(sink, &[Piece::Text(b","), Piece::Number(i128::from(facet))])
 }

@@ -7,12 +7,12 @@ use crate::cell_reader::read_cell;
 use crate::cells::Cell;
 use crate::fault::SpaceFault;
 use crate::lists::Lists;
-use crate::space::Space;
+use crate::space::{MOST_CELLS, Space};
 use gap_text::{Items, Nest};
 use std::alloc::Global;
 
-/// The most cells that a space may have.
-const MOST_CELLS: u64 = 60_000;
+/// The most layers that a space may have.
+const MOST_LAYERS: u32 = 4;
 
 /// Reads the space of a boundary list, or answers its first fault.
 ///
@@ -64,7 +64,7 @@ fn check_sizes(tops: &Items) -> Result<(), SpaceFault>
     if layers == 0 {
         return Err(SpaceFault::Empty);
     }
-    if layers > 4 {
+    if layers > MOST_LAYERS {
         return Err(SpaceFault::TooHigh);
     }
     if count_cells(tops, layers) > MOST_CELLS {
@@ -79,7 +79,8 @@ fn count_layers(tops: &Items) -> u32
 {
     let mut layers = 0;
     for index in 0..tops.len() {
-        if size_of(tops.get(index)) > 0 {
+        let is_kept = size_of(tops.get(index)) > 0;
+        if is_kept {
             layers = index + 1;
         }
     }
@@ -87,13 +88,13 @@ fn count_layers(tops: &Items) -> u32
 }
 
 /// How many cells the first layers have.
-fn count_cells(tops: &Items, layers: u32) -> u64
+fn count_cells(tops: &Items, layers: u32) -> usize
     requires { layers ≤ length tops.now }
     ensures { result ≡ sum_by (λ cells. length cells) (take layers (map inner tops.now)) }
 {
-    let mut cells = 0u64;
+    let mut cells = 0usize;
     for index in 0..layers {
-        cells += u64::from(size_of(tops.get(index)));
+        cells += size_of(tops.get(index)) as usize;
     }
     cells
 }
@@ -121,12 +122,7 @@ fn read_layers(alloc: Global, tops: &Items) -> Result<[Lists; 4], SpaceFault>
 }
 
 /// Reads the cells of a dimension, where the layer before has `below` cells.
-fn read_layer(
-    alloc: Global,
-    dim: u8,
-    below: usize,
-    tops: &Items,
-) -> Result<Lists, SpaceFault>
+fn read_layer(alloc: Global, dim: u8, below: usize, tops: &Items) -> Result<Lists, SpaceFault>
     ensures cells { IfOk result (λ cells. layer_from dim below (cells_in (kept tops.now) dim) ≡ Ok cells) }
     ensures fault { IfErr result (λ fault. fault ≢ SpaceFault.Memory → layer_from dim below (cells_in (kept tops.now) dim) ≡ Err fault) }
 {
@@ -139,12 +135,7 @@ fn read_layer(
 }
 
 /// Reads the cells of a layer.
-fn read_cells(
-    alloc: Global,
-    dim: u8,
-    below: usize,
-    nest: &Nest,
-) -> Result<Lists, SpaceFault>
+fn read_cells(alloc: Global, dim: u8, below: usize, nest: &Nest) -> Result<Lists, SpaceFault>
     ensures cells { IfOk result (λ cells. layer_from dim below (inner (view nest.now)) ≡ Ok cells) }
     ensures fault { IfErr result (λ fault. fault ≢ SpaceFault.Memory → layer_from dim below (inner (view nest.now)) ≡ Err fault) }
 {

@@ -16,6 +16,9 @@ use hap_outside::{Failed, Sink};
 use std::alloc::{AllocError, Global};
 use std::marker::Model;
 
+/// The most cells that a space may have.
+pub(crate) const MOST_CELLS: usize = 60_000;
+
 /// A space with at least one vertex and at most 60,000 cells in all. Contracts see it as four lists of
 /// cells, each cell as the list of its facets.
 #[derive(Drop)]

@@ -1,10 +1,8 @@
-use Rattle.std.proofs.Common.{◌≡◌, ◌≢◌, ◌<◌, ◌∷◌, ◌++◌, ℕ, List, length, take, sym, ◌∙◌, ap, Ok, Err, arith, refl, []}
+use Rattle.std.proofs.Common.{◌≡◌, ◌<◌, ◌∷◌, ℕ, List, length, take, sym, ◌∙◌, ap, arith, refl, []}
 use Rattle.std.proofs.lemmas.Result.{err_from_is_err_and}
 use Rattle.std.proofs.lemmas.List.{take_all}
 use Rattle.gap_text.specs.Nest.{view}
 use Rattle.gap_text.specs.declared.nest.Nest.{Nest}
-use Rattle.gap_text.specs.Value.{Value}
-use Rattle.face_poset.specs.declared.fault.SpaceFault.TheVariants.{Memory}
 use Rattle.face_poset.specs.Reader.{each_from, as_number, as_cell}
 use Rattle.face_poset.proofs.Each.{each-more, each-fault}
 use Rattle.face_poset.proofs.Values.{as_cell-is}
@@ -23,7 +21,7 @@ returns-in_err-number_of-in-List-clause-err c =
     let lt : c.loop-index.index < length c.in-List.items = omega (arith, c.len-index-end.ensures, c.loop-index-test.true) in
     rw (p.1, p.2) (λ _. ap (λ (n : Nest). as_cell (view n)) c.in-List.is ∙ (as_cell-is c.in-List.place c.in-List.items (omega arith)
     ∙ each-fault 0 (λ _ w. as_number w) c.in-List.items c.loop-index.index (view c.get-in-loop-index.result.now) (c.in_ok-count-in-List.count ∷ c.loop-index.numbers.items) c.in_err-number_of-in-List.field-0.0
-        lt c.get-in-loop-index.ensures c.loop-index.invariant (sym c.in_err-number_of-in-List.ensures)))
+    lt c.get-in-loop-index.ensures c.loop-index.invariant (sym c.in_err-number_of-in-List.ensures)))
 
 pub loop-index-preserved : goal.loop-index-preserved
 loop-index-preserved c =

@@ -1,7 +1,7 @@
-use Rattle.std.proofs.Common.{◌≡◌, ◌<◌, ◌≤◌, ℕ, List, length, take, map, sum_by, sym, ◌∙◌, ap, arith}
+use Rattle.std.proofs.Common.{◌≡◌, ℕ, List, length, take, map, sum_by, sym, ◌∙◌, ap, arith}
 use Rattle.std.proofs.lemmas.List.{length-map}
 use Rattle.gap_text.specs.Value.{Value}
-use Rattle.face_poset.specs.Layers.{inner, kept, IsSized}
+use Rattle.face_poset.specs.Layers.{inner, kept}
 use Rattle.face_poset.proofs.LayerLemmas.{trimmed-le, trimmed-take, sized-many}
 use Rattle.face_poset.proofs.reader.check_sizes.Goals as goal
 
@@ -16,10 +16,10 @@ pub returns-then-count_cells-gt-MOST_CELLS-clause-fault : goal.returns-then-coun
 returns-then-count_cells-gt-MOST_CELLS-clause-fault c =
     let n : c.count_layers-layers.result ≡ length (kept c.args.tops.now) = c.count_layers-layers.ensures in
     let sum : c.count_cells.result ≡ sum_by (λ cells. length cells) (kept c.args.tops.now) = total c.args.tops.now c.count_layers-layers.result c.count_cells.result n c.count_cells.ensures in
-    sized-many c.args.tops.now (omega (arith, c.if-layers-eq0.false)) (omega (arith, c.if-layers-gt4.false)) (omega (arith, c.if-count_cells-gt-MOST_CELLS.true))
+    sized-many c.args.tops.now (omega (arith, c.if-layers-eq0.false)) (omega (arith, c.if-layers-gt-MOST_LAYERS.false)) (omega (arith, c.if-count_cells-gt-MOST_CELLS.true))
 
 pub returns-clause-sized : goal.returns-clause-sized
 returns-clause-sized c =
     let n : c.count_layers-layers.result ≡ length (kept c.args.tops.now) = c.count_layers-layers.ensures in
     let sum : c.count_cells.result ≡ sum_by (λ cells. length cells) (kept c.args.tops.now) = total c.args.tops.now c.count_layers-layers.result c.count_cells.result n c.count_cells.ensures in
-    record { some = omega (arith, c.if-layers-eq0.false); low = omega (arith, c.if-layers-gt4.false); few = omega (arith, c.if-count_cells-gt-MOST_CELLS.false) }
+    record { some = omega (arith, c.if-layers-eq0.false); low = omega (arith, c.if-layers-gt-MOST_LAYERS.false); few = omega (arith, c.if-count_cells-gt-MOST_CELLS.false) }

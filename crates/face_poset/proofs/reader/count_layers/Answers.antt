@@ -1,4 +1,4 @@
-use Rattle.std.proofs.Common.{◌≡◌, ◌<◌, ◌≤◌, ◌++◌, ◌∷◌, [], ◌+◌, ℕ, List, length, take, sym, ◌∙◌, ap, Some, slice_get, arith}
+use Rattle.std.proofs.Common.{◌≡◌, ◌<◌, ◌+◌, ℕ, List, length, take, sym, ◌∙◌, ap, Some, slice_get, arith}
 use Rattle.std.proofs.lemmas.List.{length-take-le}
 use Rattle.gap_text.specs.Nest.{view}
 use Rattle.gap_text.specs.Value.{Value}
@@ -6,7 +6,7 @@ use Rattle.face_poset.specs.Layers.{inner, kept}
 use Rattle.face_poset.proofs.Each.{take_at}
 use Rattle.face_poset.proofs.LayerLemmas.{kept-empty, kept-some}
 use Rattle.face_poset.proofs.reader.count_layers.Goals as goal
-use Rattle.face_poset.proofs.reader.count_layers.Goals.{then-size_of-gt0, else-size_of-gt0}
+use Rattle.face_poset.proofs.reader.count_layers.Goals.{then-is_kept, else-is_kept}
 
 more-some : (tops : List Value) (i n : ℕ) (v : Value) → i < length tops → slice_get tops i ≡ Some v → 0 < length (inner v) → n ≡ i + 1 → n ≡ length (kept (take (i + 1) tops))
 more-some tops i n v l e some is =
@@ -19,7 +19,7 @@ more-empty tops i n m v l e none is h = is ∙ (h ∙ sym (ap (λ (ts : List Val
 pub loop-index-preserved : goal.loop-index-preserved
 loop-index-preserved c =
     let lt : c.loop-index.index < length c.args.tops.now = omega (arith, c.len-index-end.ensures, c.loop-index-test.true) in
-    elim c.if-size_of-gt0.branch [
-      | then-size_of-gt0 w ↦ more-some c.args.tops.now c.loop-index.index c.if-size_of-gt0.layers (view c.get.result.now) lt c.get.ensures (omega (arith, c.size_of.ensures)) w.layers-is
-      | else-size_of-gt0 w ↦ more-empty c.args.tops.now c.loop-index.index c.if-size_of-gt0.layers c.loop-index.layers (view c.get.result.now) lt c.get.ensures (omega (arith, c.size_of.ensures)) w.layers-is c.loop-index.invariant
+    elim c.if-is_kept.branch [
+      | then-is_kept w ↦ more-some c.args.tops.now c.loop-index.index c.if-is_kept.layers (view c.get.result.now) lt c.get.ensures (omega (arith, c.size_of-is_kept.ensures, w.if-is_kept)) w.layers-is
+      | else-is_kept w ↦ more-empty c.args.tops.now c.loop-index.index c.if-is_kept.layers c.loop-index.layers (view c.get.result.now) lt c.get.ensures (omega (arith, c.size_of-is_kept.ensures, w.if-is_kept)) w.layers-is c.loop-index.invariant
     ]

@@ -1,4 +1,4 @@
-use Rattle.std.proofs.Common.{◌≡◌, ◌≤◌, take, length}
+use Rattle.std.proofs.Common.{◌≡◌, take, length}
 use Rattle.face_poset.specs.Layers.{kept}
 use Rattle.face_poset.proofs.reader.count_layers.Given as goal
 

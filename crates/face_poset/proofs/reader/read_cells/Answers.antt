@@ -1,10 +1,10 @@
-use Rattle.std.proofs.Common.{◌≡◌, ◌<◌, ◌≤◌, ◌+◌, ℕ, List, length, take, sym, ◌∙◌, ap, Ok, Err, arith, [], ◌++◌, ◌∷◌}
+use Rattle.std.proofs.Common.{◌≡◌, ◌<◌, ◌+◌, ℕ, List, length, take, sym, ◌∙◌, ap, arith, [], ◌++◌, ◌∷◌}
 use Rattle.std.proofs.lemmas.List.{take_all}
 use Rattle.std.proofs.lemmas.Result.{err_from_is_err_and}
 use Rattle.gap_text.specs.Nest.{view}
 use Rattle.gap_text.specs.declared.nest.Nest.{Nest}
 use Rattle.gap_text.specs.Value.{Value}
-use Rattle.face_poset.specs.Reader.{each_from, cell_from, layer_from}
+use Rattle.face_poset.specs.Reader.{cell_from, layer_from}
 use Rattle.face_poset.specs.Layers.{inner}
 use Rattle.face_poset.proofs.Each.{each-more, each-fault}
 use Rattle.face_poset.proofs.Values.{items-values}
@@ -22,7 +22,7 @@ returns-in_err-facets-clause-fault c =
     rw (p.1, p.2) (λ ne. ap (λ (n : Nest). layer_from c.args.dim c.args.below (inner (view n))) c.in-List.is
     ∙ (ap (layer_from c.args.dim c.args.below) (items-values c.in-List.items)
     ∙ each-fault 1 (cell_from c.args.dim c.args.below) c.in-List.items i (view c.get.result.now) c.loop-index.cells c.in_err-facets.field-0.0 lt c.get.ensures c.loop-index.invariant
-        (at_next c.args.dim c.args.below i (view c.get.result.now) ∙ c.in_err-facets.ensures.err ne)))
+    (at_next c.args.dim c.args.below i (view c.get.result.now) ∙ c.in_err-facets.ensures.err ne)))
 
 pub loop-index-preserved : goal.loop-index-preserved
 loop-index-preserved c =

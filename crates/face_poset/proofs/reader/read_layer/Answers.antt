@@ -1,4 +1,4 @@
-use Rattle.std.proofs.Common.{◌≡◌, ◌≢◌, ◌<◌, ◌≤◌, ℕ, List, length, sym, ◌∙◌, ap, Ok, Err, Some, slice_get, arith, subst, []}
+use Rattle.std.proofs.Common.{◌≡◌, ℕ, List, sym, ◌∙◌, ap, Ok, Some, slice_get, arith, []}
 use Rattle.std.proofs.lemmas.Result.{MatchResult-weaker}
 use Rattle.gap_text.specs.Nest.{view}
 use Rattle.gap_text.specs.Value.{Value}
