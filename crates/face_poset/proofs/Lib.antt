@@ -7,6 +7,7 @@ pub mod Each
 pub mod Facets
 pub mod LayerLemmas
 pub mod Members
+pub mod PositionLemmas
 pub mod ReadBack
 pub mod Rooms
 pub mod SpaceLemmas

@@ -1,5 +1,6 @@
 pub mod Words
 pub mod Poset
+pub mod Positions
 pub mod Reader
 pub mod Laws
 pub mod Layers

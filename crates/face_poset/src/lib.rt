@@ -13,6 +13,7 @@ mod fault;
 mod graded;
 mod laws;
 mod lists;
+mod position;
 mod printer;
 mod reader;
 mod slots;
@@ -23,8 +24,10 @@ pub use cells::{Cell, CellList, Pair};
 pub use fault::SpaceFault;
 pub use graded::{Graded, Signed};
 pub use laws::{
-    closed_cell_is_least, closed_cell_is_ordered, cofaces_are_cells_above, text_reads_back,
+    closed_cell_is_least, closed_cell_is_ordered, cofaces_are_cells_above, position_is_spelled,
+    text_reads_back,
 };
+pub use position::{Position, PositionFault};
 pub use reader::from_nest;
 pub use space::Space;
 

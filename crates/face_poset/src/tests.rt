@@ -1,6 +1,8 @@
-// The worked examples of spaces and of lists that are none, printing and reading again, and the most
-// cells that a space may have.
-use crate::{BuildFault, Builder, Cell, Graded, Space, SpaceFault, from_nest};
+// The worked examples of spaces and of lists that are none, printing and reading again, the most cells
+// that a space may have, and positions.
+use crate::{
+    BuildFault, Builder, Cell, Graded, Position, PositionFault, Space, SpaceFault, from_nest,
+};
 use gap_text::parse;
 use hap_outside::Paper;
 use std::alloc::{AllocError, Global};
@@ -177,4 +179,41 @@ fn circle(alloc: Global) -> Result<Space, SpaceFault> {
     builder.add(1, &[1, 2]).map_err(|_| SpaceFault::Memory)?;
     builder.add(1, &[1, 2]).map_err(|_| SpaceFault::Memory)?;
     Ok(builder.finish()?)
+}
+
+#[test]
+fn reads_positions(rt: HostRuntime) -> Result<(), Fail> {
+    let position = Position::parse(rt.alloc(), "3:2,3")?;
+    assert_eq!(rt;
+        (position.sheets(), position.room(), position.is_start()),
+        (3, 2, false)
+    );
+    assert_eq!(rt; position.cells(), [2, 3].as_slice());
+    for text in [
+        "", "-", "3", "3:", "0:1", "9:1", "3:2,", "3:0", "3:9", "3:2;3", "3: 2", "33:2",
+    ] {
+        assert_eq!(rt;
+            Position::parse(rt.alloc(), text).err(),
+            Some(PositionFault::Form),
+            "{text}"
+        );
+    }
+    Ok(())
+}
+
+#[test]
+fn holds_positions(rt: HostRuntime) -> Result<(), Fail> {
+    let mut position = Position::with_room(rt.alloc(), 4)?;
+    assert_eq!(rt;
+        (position.sheets(), position.room(), position.is_start()),
+        (0, 4, true)
+    );
+    position.refill(2, &[1, 2]);
+    assert_eq!(rt; (position.sheets(), position.room()), (2, 4));
+    assert_eq!(rt;
+        position.cells(),
+        Position::from_cells(rt.alloc(), 2, &[1, 2])?.cells()
+    );
+    assert_eq!(rt; Position::start(rt.alloc()).cells(), [].as_slice());
+    Ok(())
 }
