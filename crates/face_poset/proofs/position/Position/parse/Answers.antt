@@ -1,6 +1,4 @@
-use Rattle.std.proofs.Common.{◌≡◌, ◌≤◌, ◌+◌, ◌-◌, ℕ, List, length, take, drop, get_or, Some, inr, sym, ◌∙◌, arith, All}
-use Rattle.std.specs.Vec.{vec_capacity}
-use Rattle.face_poset.specs.Positions.{IsProper, digit_from}
+use Rattle.std.proofs.Common.{◌≡◌, ◌≤◌, ◌+◌, ◌-◌, ℕ, List, length, take, drop, get_or, inr, sym, ◌∙◌, arith, All}
 use Rattle.face_poset.proofs.PositionLemmas.{digit-is, cells-are, cells_text}
 use Rattle.face_poset.proofs.position.Position.parse.Goals as goal
 
