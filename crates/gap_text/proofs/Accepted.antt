@@ -2,17 +2,14 @@
 use Rattle.std.proofs.Common.{◌≡◌, ℕ, suc, ◌+◌, ◌<◌, ◌≤◌, List, [], ◌∷◌, ◌++◌, length, Result, Ok, Err, refl, ◌∙◌, ap, arith, append_assoc, add_assoc, add-zero}
 use Rattle.std.proofs.lemmas.Bool.Decides.{nat_tests}
 use Rattle.gap_text.specs.declared.fault.TextFault.{TextFault}
-use Rattle.gap_text.specs.Value.{Value, Values, number, list, none, more, items, values, depth, deepest}
+use Rattle.gap_text.specs.Value.{Value, Values, number, list, items, values, depth, deepest}
 use Rattle.gap_text.specs.Tokens.{Token, Open, Close, Dots, Number, too_big}
 use Rattle.gap_text.specs.Reading.{State, Level, AnyValue, FirstItem, AfterItem, RangeEnd, RangeClose, at, level, put, span, counted, step, run, read, start, value_at_end}
+use Rattle.gap_text.proofs.Views.{values-items}
 use Rattle.gap_text.specs.Grammar.{Reads, ReadsItems, IsText, a_number, an_empty, a_range, a_list, the_last, and_more, plain, ended, Spells}
 
 pub run-step : (s next : State) (t : Token) (ts : List Token) → step s t ≡ Ok next → run s (t ∷ ts) ≡ run next ts
 run-step s next t ts e = ap (λ q. elim q as (λ x. Result State TextFault) [ Ok after ↦ run after ts | Err f ↦ Err f ]) e
-
-pub values-items : (vs : Values) → values (items vs) ≡ vs
-values-items none = refl
-values-items (more v vs) = ap (more v) (values-items vs)
 
 -- ---- single steps
 

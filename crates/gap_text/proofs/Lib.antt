@@ -4,6 +4,7 @@ pub mod Counted
 pub mod Joined
 pub mod Lexed
 pub mod Placed
+pub mod Printed
 pub mod Run
 pub mod Spelled
 pub mod Stack

@@ -9,7 +9,7 @@ use Rattle.gap_text.specs.Value.{Value, Values, number, list, none, more, items,
 use Rattle.gap_text.specs.Tokens.{Token, Open, Close, Comma, Dots, Semicolon, Number, Bad, too_big}
 use Rattle.gap_text.specs.Reading.{State, Level, AnyValue, FirstItem, AfterItem, RangeEnd, RangeClose, Whole, Over, at, level, put, span, counted, shape_of, range_begun, step, run, read, start, value_at_end}
 use Rattle.gap_text.specs.Grammar.{Reads, ReadsItems, IsText, a_number, an_empty, a_range, a_list, the_last, and_more, plain, ended, Spells}
-use Rattle.gap_text.proofs.Accepted.{values-items}
+use Rattle.gap_text.proofs.Views.{values-items}
 
 -- ---- a token that was taken
 
@@ -225,6 +225,26 @@ no_begin (OneNumber p a) q ls made r next h e = h tt
 no_begin TwoNumbers q ls made r next h e = cc
 no_begin Longer q ls made r next h e = cc
 
+-- what goes on after one more item, and then the others
+goes_more : (q : ℕ) (x : Value) (xs : List Value) (v : Value) (vs : List Value) (ls : List Level) (made m n : ℕ) (us : List Token) (p : ℕ) (w : Value)
+    → read (put (list q (values ((x ∷ (xs ++ v ∷ [])) ++ vs))) ls (made + m + n)) us p ≡ Ok w → read (put (list q (values (x ∷ (xs ++ v ∷ vs)))) ls (made + (m + n))) us p ≡ Ok w
+goes_more q x xs v vs ls made m n us p w e = rw (← add_assoc made m n, ← append_assoc xs (v ∷ []) vs) e
+
+-- the same as what the rest of the tokens holds
+tail_of_items : (q : ℕ) (x : Value) (xs : List Value) (ls : List Level) (made m r : ℕ) (ts us : List Token) (v : Value) (p : ℕ) (w : Value) → Reads ts v us m → suc (length ls) + depth v ≤ 8 → length us < length ts
+    → ReadsTail (level q (x ∷ (xs ++ v ∷ []))) ls (made + m) us p w → ReadsTail (level q (x ∷ xs)) ls made (Comma r ∷ ts) p w
+tail_of_items q x xs ls made m r ts us v p w k shallow shorter b = record {
+  vs = more v b.vs;
+  us = b.us;
+  q = b.q;
+  n = m + b.n;
+  reads = then_more (with_more k b.reads);
+  goes = goes_more q x xs v (items b.vs) ls made m b.n b.us p w b.goes;
+  few = omega (arith, b.few);
+  shallow = omega (arith, b.shallow);
+  shorter = omega (arith, b.shorter);
+}
+
 mutual
   value_read : (fuel : ℕ) (ts : List Token) (ls : List Level) (made p : ℕ) (w : Value) → length ts < fuel → made ≤ 1000000 → length ls ≤ 8 → read (at AnyValue ls made) ts p ≡ Ok w → ReadsValue ls made ts p w
   value_read zero ts ls made p w short few shallow e = absurd (omega arith)
@@ -303,18 +323,7 @@ mutual
   tail_read (suc fuel) (Comma r ∷ ts) q x xs ls made p w short few shallow h e =
       let a = value_read fuel ts (level q (x ∷ xs) ∷ ls) made p w (omega arith) few (omega arith) e in
       let b = tail_read fuel a.us q x (xs ++ a.v ∷ []) ls (made + a.n) p w (omega (arith, a.shorter)) a.few shallow (no_range_after_two x xs a.v a.us) a.goes in
-      record {
-        vs = more a.v b.vs;
-        us = b.us;
-        q = b.q;
-        n = a.n + b.n;
-        reads = then_more (with_more a.reads b.reads);
-        goes = sym (ap (λ (c : ℕ). read (put (list q (values (x ∷ (xs ++ a.v ∷ items b.vs)))) ls c) b.us p) (add_assoc made a.n b.n))
-            ∙ sym (ap (λ (vs : List Value). read (put (list q (values (x ∷ vs))) ls (made + a.n + b.n)) b.us p) (append_assoc xs (a.v ∷ []) (items b.vs))) ∙ b.goes;
-        few = omega (arith, b.few);
-        shallow = omega (arith, a.shallow, b.shallow);
-        shorter = omega (arith, a.shorter, b.shorter);
-      }
+      tail_of_items q x xs ls made a.n r ts a.us a.v p w a.reads (omega (arith, a.shallow)) a.shorter b
   tail_read (suc fuel) (Dots r ∷ ts) q x xs ls made p w short few shallow h e =
       let t = taken (at AfterItem (level q (x ∷ xs) ∷ ls) made) (Dots r) ts p w e in
       absurd (no_begin (shape_of (x ∷ xs)) q ls made r t.next h t.step_is)

@@ -7,7 +7,8 @@ use std::marker::Model;
 /// Lists of fewer items are kept in blocks of just their size.
 const SHORT: usize = 8;
 
-/// A number or a list, with the place of its first byte in the text, counted from 0.
+/// A number or a list, with the place of its first byte in the text, counted from 0. The numbers that
+/// a range made have the place of its first number.
 #[derive(Debug, Drop)]
 #[cycle(nest)]
 pub enum Nest {
