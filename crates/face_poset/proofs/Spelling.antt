@@ -1,13 +1,11 @@
 -- The boundary text in the grammar of texts: which tokens it has, and which value they spell.
-use Rattle.std.proofs.Common.{◌≡◌, ◌<◌, ◌≤◌, ◌+◌, ◌-◌, ◌*◌, ◌/◌, ◌%◌, ◌^◌, ◌++◌, ◌∷◌, [], ℕ, suc, Bool, true, ◌&&◌, List, length, map, refl, sym, ◌∙◌, ap, arith, subst, append_assoc, decimal, Ok, leb}
-use Rattle.std.specs.List.{list_all, AllZip, AllByRecursion}
-use Rattle.std.proofs.lemmas.Bool.{le-leb}
+use Rattle.std.proofs.Common.{◌≡◌, ◌<◌, ◌≤◌, ◌+◌, ◌++◌, ◌∷◌, [], ℕ, suc, List, length, map, refl, sym, arith, subst, append_assoc, decimal, Ok}
+use Rattle.std.specs.List.{AllZip, AllByRecursion}
 use Rattle.std.proofs.lemmas.List.{length-append}
-use Rattle.std.proofs.lemmas.List.Folds.{list_all-append}
-use Rattle.std.proofs.lemmas.Fmt.{decimal_by_steps}
 use Rattle.gap_text.specs.Value.{Value, number, list, none, values, depth, deepest}
-use Rattle.gap_text.specs.Tokens.{Token, Open, Close, Comma, Number, is_digit, too_big}
-use Rattle.gap_text.specs.Grammar.{decimal_from, EndsDigits, Lexes, open_bracket, close_bracket, a_comma, digits, Reads, ReadsItems, a_number, an_empty, a_list, the_last, and_more}
+use Rattle.gap_text.specs.Tokens.{Token, Open, Close, Comma, Number}
+use Rattle.gap_text.specs.Grammar.{EndsDigits, Lexes, open_bracket, close_bracket, a_comma, Reads, ReadsItems, a_number, an_empty, a_list, the_last, and_more}
+use Rattle.gap_text.proofs.Printed.{lexes-decimal}
 use Rattle.face_poset.specs.Text.{commas, brackets}
 use Rattle.face_poset.specs.Reader.{as_number}
 
@@ -26,51 +24,16 @@ Spelled k text P = (p : ℕ) (bs : List ℕ) (rest : List Token) → EndsDigits 
 
 -- numbers
 
-record IsDecimal (n : ℕ) (ds : List ℕ) : Type 0 where
-  digits_only : list_all is_digit ds ≡ true
-  worth : decimal_from 0 ds ≡ n
-  some : 0 < length ds
-
-decimal_from-push : (m : ℕ) (ds : List ℕ) (d : ℕ) → decimal_from m (ds ++ d ∷ []) ≡ 10 * decimal_from m ds + (d - 48)
-decimal_from-push m [] d = refl
-decimal_from-push m (e ∷ ds) d = decimal_from-push (10 * m + (e - 48)) ds d
-
-digit_is : (d : ℕ) → d < 10 → is_digit (48 + d) ≡ true
-digit_is d l = ap (λ (b : Bool). b && leb (48 + d) 57) (le-leb 48 (48 + d) (omega arith)) ∙ le-leb (48 + d) 57 (omega arith)
-
-decimal-is : (n : ℕ) → n < 2 ^ 64 → IsDecimal n (decimal n)
-decimal-is n l =
-    decimal_by_steps IsDecimal
-    (λ d small. record {
-      digits_only = ap (λ (b : Bool). b && true) (digit_is d small);
-      worth = omega arith;
-      some = omega arith;
-    })
-    (λ m ds big h. record {
-      digits_only = list_all-append is_digit ds ((48 + m % 10) ∷ []) ∙ (ap (λ (b : Bool). b && (is_digit (48 + m % 10) && true)) h.digits_only ∙ ap (λ (b : Bool). b && true) (digit_is (m % 10) (omega arith)));
-      worth = decimal_from-push 0 ds (48 + m % 10) ∙ (ap (λ (w : ℕ). 10 * w + (48 + m % 10 - 48)) h.worth ∙ (let e : 10 * (m / 10) + (48 + m % 10 - 48) ≡ m = omega arith in e));
-      some = omega (arith, length-append ds ((48 + m % 10) ∷ []));
-    })
-    n l
-
-digits-spelled : (ds : List ℕ) → list_all is_digit ds ≡ true → 0 < length ds → decimal_from 0 ds < too_big → Spelled 0 ds (λ v. as_number v ≡ Ok (decimal_from 0 ds))
-digits-spelled [] ok some small p bs rest ends lex = absurd (omega arith)
-digits-spelled (d ∷ ds) ok some small p bs rest ends lex =
-    let here : p + suc (length ds) ≡ suc p + length ds = omega arith in
+pub number-spelled : (n : ℕ) → n < 4294967296 → Spelled 0 (decimal n) (λ v. as_number v ≡ Ok n)
+number-spelled n small p bs rest ends lex =
     record {
-      tokens = Number p (decimal_from 0 (d ∷ ds)) ∷ rest;
-      lexes = digits d ds ok ends (subst (λ (q : ℕ). Lexes q bs rest) here lex);
-      value = number p (decimal_from 0 (d ∷ ds));
+      tokens = Number p n ∷ rest;
+      lexes = lexes-decimal n p bs rest small ends lex;
+      value = number p n;
       has = refl;
       reads = a_number small;
       shallow = omega arith;
     }
-
-pub number-spelled : (n : ℕ) → n < 4294967296 → Spelled 0 (decimal n) (λ v. as_number v ≡ Ok n)
-number-spelled n l =
-    let h : IsDecimal n (decimal n) = decimal-is n (omega arith) in
-    subst (λ (m : ℕ). Spelled 0 (decimal n) (λ v. as_number v ≡ Ok m)) h.worth
-    (digits-spelled (decimal n) h.digits_only h.some (let e : decimal_from 0 (decimal n) ≡ n = h.worth in omega arith))
 
 -- lists
 
@@ -105,7 +68,7 @@ items-spelled T P k x (y ∷ ys) first others p bs rest ends lex =
       lexes = subst (λ (t : List ℕ). Lexes p t s.tokens) text s.lexes;
       items = s.value ∷ r.items;
       has = (s.has, r.has);
-      reads = and_more s.reads r.reads;
+      reads = and_more {us = s.tokens} {v = s.value} s.reads r.reads;
       shallow = omega (arith, s.shallow, r.shallow);
     }
 
