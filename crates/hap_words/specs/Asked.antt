@@ -1,7 +1,7 @@
 -- The commands with their options as values.
 use Rattle.std.specs.Prelude.{◌≡◌, ℕ, List, option_map, string_bytes}
 use Rattle.std.specs.declared.option.Option.{Option}
-use Rattle.face_poset.specs.Positions.{Placed}
+use Rattle.face_poset.specs.Positions.{Place}
 use Rattle.hap_words.specs.declared.command.Kind.{Kind}
 use Rattle.hap_words.specs.declared.command.Input.{Input}
 use Rattle.hap_words.specs.declared.command.Command.{Command}
@@ -13,8 +13,8 @@ pub record Source : Type 0 where
   pub name : Option (List ℕ)
 
 -- a place in the listing of covers: the number of sheets and the cells that were placed
-abbrev pub Place : Type 0
-Place = ℕ × List ℕ
+abbrev pub SearchPlace : Type 0
+SearchPlace = ℕ × List ℕ
 
 pub data Asked : Type 0 where
   cells : Source → Asked
@@ -23,16 +23,16 @@ pub data Asked : Type 0 where
   cup : Source → (modulus : ℕ) → Asked
   verify : (name : Option (List ℕ)) → Asked
   group : Source → Asked
-  covers : Source → (sheets budget : ℕ) → (from : Place) → Asked
+  covers : Source → (sheets budget : ℕ) → (from : SearchPlace) → Asked
   cover : Source → (sheets index budget : ℕ) → (modulus : Option ℕ) → Asked
-  report : Source → (modulus sheets budget : ℕ) → (from : Place) → Asked
+  report : Source → (modulus sheets budget : ℕ) → (from : SearchPlace) → Asked
   make : (size : ℕ) → (modulus : Option ℕ) → Asked
 
 -- what a value of the code stands for
 abbrev pub source_of : Input → Source
 source_of input = record { kind = input.kind; name = option_map string_bytes input.name }
 
-abbrev pub place_of : Placed → Place
+abbrev pub place_of : Place → SearchPlace
 place_of p = (p.sheets, p.cells)
 
 abbrev pub asked_of : Command → Asked

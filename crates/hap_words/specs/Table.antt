@@ -5,7 +5,7 @@ use Rattle.std.specs.declared.option.Option.TheVariants.{Some, None}
 use Rattle.std.specs.List.{list_all, list_any}
 use Rattle.clap.specs.declared.error.kind.ErrorKind.{ErrorKind}
 use Rattle.clap.specs.Words.{Row, Text, fault_of, first_of, matches_of}
-use Rattle.face_poset.specs.Positions.{position_of}
+use Rattle.face_poset.specs.Positions.{position_from}
 use Rattle.hap_words.specs.declared.command.Kind.{Kind}
 use Rattle.hap_words.specs.declared.command.Kind.TheVariants.{Boundary, Cubical, Permutahedral, Arcs}
 use Rattle.hap_words.specs.declared.table.Verb.{Verb}
@@ -14,7 +14,7 @@ use Rattle.hap_words.specs.declared.table.Name.{Name}
 use Rattle.hap_words.specs.declared.table.Name.TheVariants as name
 use Rattle.hap_words.specs.Line.{hap_app}
 use Rattle.hap_words.specs.Texts.{named, number_between}
-use Rattle.hap_words.specs.Asked.{Asked, Source, Place, cells, check, betti, cup, verify, group, covers, cover, report, make}
+use Rattle.hap_words.specs.Asked.{Asked, Source, SearchPlace, cells, check, betti, cup, verify, group, covers, cover, report, make}
 
 -- ---- the words
 
@@ -124,8 +124,8 @@ abbrev pub size : List Row → Option ℕ
 size rows = number_under rows name.Size 2 19
 
 -- left out, the start
-abbrev pub from : List Row → Option Place
-from rows = value_or (0, []) position_of (text_under rows name.From)
+abbrev pub from : List Row → Option SearchPlace
+from rows = value_or (0, []) position_from (text_under rows name.From)
 
 abbrev pub kind : List Row → Option Kind
 kind rows = value_or Boundary (named kinds) (text_under rows name.Kind)

@@ -1,5 +1,5 @@
 // The reading of the words.
-ghost use Rattle.std.specs.Prelude.{◌≡◌, ◌&&◌, codes, map, string_bytes, option_map};
+ghost use Rattle.std.specs.Prelude.{◌≡◌, ◌&&◌, true, codes, map, string_bytes, option_map, IfOk};
 ghost use Rattle.std.specs.declared.option.Option.TheVariants.{Some, None};
 ghost use Rattle.clap.specs.Words.{rows_of, found_of, first_of};
 ghost use Rattle.hap_words.specs.Reads.{Reads};
@@ -297,7 +297,8 @@ fn is_built(command: &Command) -> bool
 
 /// The command that the words, those after the program's name, ask for, where the command and its kind of input are built.
 pub fn read(alloc: Global, words: &[String]) -> Result<Command, WordsFault>
-    ensures { Reads asked_of (table.read (map string_bytes words.now)) result }
+    ensures asked { Reads asked_of (table.read (map string_bytes words.now)) result }
+    ensures built { IfOk result (λ command. table.is_built (asked_of command) ≡ true) }
 {
     let command = read_any(alloc, words)?;
     if is_built(&command) {
