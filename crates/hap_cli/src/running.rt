@@ -18,6 +18,7 @@ use crate::space::read_space;
 use hap_outside::{Failed, ReadAll, Sink, Source, Steps};
 use hap_words::{Command, Input, WordsFault, read};
 use std::alloc::Global;
+use std::mem::drop;
 use std::sync::ledger::Ledger;
 
 // Reads a space and writes how many cells it has.
@@ -75,6 +76,36 @@ fn perform<S: Source, K: Sink>(
     }
 }
 
+// Reads the words and does what they ask for.
+fn perform_words<S: Source, K: Sink>(
+    alloc: Global,
+    words: &[String],
+    source: &mut S,
+    out: &mut K,
+) -> Outcome
+    requires { S.begun source.old ≡ false }
+    ensures cause { MatchOption (asked_by (map string_bytes words.now))
+        ((result ≡ Outcome.Usage) ⊎ (result ≡ Outcome.Memory)) (λ asked.
+        IsEnd asked (S.store source.old)
+        (Rose (S.faults source.old) (S.faults source.new)) (Rose (K.faults out.old) (K.faults out.new))
+        (K.written out.old) (K.written out.new) result) }
+    ensures untouched { IsNone (asked_by (map string_bytes words.now)) → source.new ≡ source.old }
+    ensures read_told { S.faults source.old < S.faults source.new → result ≡ Outcome.ReadFault }
+    ensures write_told { K.faults out.old < K.faults out.new → result ≡ Outcome.WriteFault }
+    ensures end { result ≡ Outcome.Done → IsAtEnd (S.left source.new) }
+    ensures nothing { result ≢ Outcome.Done → result ≢ Outcome.WriteFault → out.new ≡ out.old }
+{
+    match read(alloc, words) {
+        Ok(command) => {
+            let outcome = perform(alloc, &command, source, out);
+            drop(command);
+            outcome
+        }
+        Err(WordsFault::Usage) => Outcome::Usage,
+        Err(WordsFault::Memory) => Outcome::Memory,
+    }
+}
+
 /// Does all that the program does, and answers its status. The words are those after the program's name.
 pub fn run<S: Source, K: Sink, E: Sink, L: Ledger>(
     alloc: Global,
@@ -121,10 +152,6 @@ pub fn run<S: Source, K: Sink, E: Sink, L: Ledger>(
     ensures silent { result ≡ 0 → err.new ≡ err.old }
     ensures steps { steps.new ≡ steps.old }
 {
-    let outcome = match read(alloc, words) {
-        Ok(command) => perform(alloc, &command, source, out),
-        Err(WordsFault::Usage) => Outcome::Usage,
-        Err(WordsFault::Memory) => Outcome::Memory,
-    };
+    let outcome = perform_words(alloc, words, source, out);
     end_with(err, outcome)
 }
