@@ -55,9 +55,10 @@ impl Builder {
 
     /// Adds a cell, and answers its number in its dimension, counted from 1.
     ///
-    /// The dimension is not below that of a cell that stands. A vertex has no facet; the facets of any
-    /// other cell are strictly increasing numbers of cells that stand, one dimension below.
-    /// `TooManyCells` comes exactly where 60,000 cells stand. After a refusal the builder is as before.
+    /// The dimension is not below that of a cell that stands. A vertex has no facet; the facets of
+    /// any other cell are strictly increasing numbers of cells that stand, one dimension below.
+    /// `TooManyCells` comes exactly where 60,000 cells stand. After a refusal the builder is as
+    /// before.
     pub fn add(&mut self, dim: u8, facets: &[u32]) -> Result<u32, BuildFault>
         requires dim { dim ≤ 3 }
         requires last { (above : ℕ) → dim < above → count self.old above ≡ 0 }

@@ -17,8 +17,10 @@ pub(crate) fn read_cell(
     below: usize,
     nest: &Nest,
 ) -> Result<SmallVec<u32, 8>, SpaceFault>
-    ensures ok { IfOk result (λ facets. cell_from cell.dim below cell.number (view nest.now) ≡ Ok facets.items) }
-    ensures err { IfErr result (λ fault. fault ≢ SpaceFault.Memory → cell_from cell.dim below cell.number (view nest.now) ≡ Err fault) }
+    ensures ok { IfOk result
+        (λ facets. cell_from cell.dim below cell.number (view nest.now) ≡ Ok facets.items) }
+    ensures err { IfErr result (λ fault. fault ≢ SpaceFault.Memory
+        → cell_from cell.dim below cell.number (view nest.now) ≡ Err fault) }
 {
     let (count, mut facets) = read_numbers(alloc, nest)?;
     if cell.dim == 0 {
@@ -81,8 +83,10 @@ fn check_facets(
     numbers: &mut SmallVec<u32, 8>,
 ) -> Result<(), SpaceFault>
     requires { 1 ≤ cell.dim }
-    ensures ok { OnOk result (facets_from cell.dim below cell.number (count ∷ numbers.old.items) ≡ Ok numbers.new.items) }
-    ensures err { IfErr result (λ fault. facets_from cell.dim below cell.number (count ∷ numbers.old.items) ≡ Err fault) }
+    ensures ok { let from = facets_from cell.dim below cell.number (count ∷ numbers.old.items) in
+        OnOk result (from ≡ Ok numbers.new.items) }
+    ensures err { let from = facets_from cell.dim below cell.number (count ∷ numbers.old.items) in
+        IfErr result (λ fault. from ≡ Err fault) }
 {
     if count == 0 || count as usize != numbers.len() {
         return Err(SpaceFault::BadCount(cell));
@@ -106,7 +110,10 @@ fn is_any_outside(numbers: &[u32], most: usize) -> bool
 
 /// Whether each number is below the next.
 fn is_rising(numbers: &[u32]) -> bool
-    ensures { MatchBool result (IsStrictlyIncreasing numbers.now) ((k : ℕ) × (k + 1 < length numbers.now) × (slice_index numbers.now (k + 1) ≤ slice_index numbers.now k)) }
+    ensures { MatchBool result (IsStrictlyIncreasing numbers.now)
+        ((k : ℕ)
+        × (k + 1 < length numbers.now)
+        × (slice_index numbers.now (k + 1) ≤ slice_index numbers.now k)) }
 {
     for index in 1..numbers.len() {
         if numbers[index] <= numbers[index - 1] {

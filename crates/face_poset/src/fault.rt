@@ -15,7 +15,8 @@ pub enum SpaceFault {
     /// There are more than four layers.
     #[error("dimension over 3")]
     TooHigh,
-    /// The first number of the cell is not the number of its facets, or it is a vertex other than `[1,0]`.
+    /// The first number of the cell is not the number of its facets, or it is a vertex other than
+    /// `[1,0]`.
     #[error("bad count in {0:?}")]
     BadCount(Cell),
     /// A facet of the cell is 0, or above the number of cells one dimension below.

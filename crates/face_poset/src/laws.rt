@@ -6,8 +6,8 @@ pub fn text_reads_back()
     ensures { TextReadsBack }
 {}
 
-/// A law, and nothing at run time: the cofaces of a cell are exactly the cells that have it as a facet,
-/// in increasing order.
+/// A law, and nothing at run time: the cofaces of a cell are exactly the cells that have it as a
+/// facet, in increasing order.
 pub fn cofaces_are_cells_above()
     ensures { CofacesAreCellsAbove }
 {}
@@ -17,13 +17,14 @@ pub fn closed_cell_is_ordered()
     ensures { ClosedCellIsOrdered }
 {}
 
-/// A law, and nothing at run time: a cell with all its faces is the least set that holds the cell and
-/// the facets of all its members.
+/// A law, and nothing at run time: a cell with all its faces is the least set that holds the cell
+/// and the facets of all its members.
 pub fn closed_cell_is_least()
     ensures { ClosedCellIsLeast }
 {}
 
-/// A law, and nothing at run time: a text has a position exactly where it is the text of that position.
+/// A law, and nothing at run time: a text has a position exactly where it is the text of that
+/// position.
 pub fn position_is_spelled()
     ensures { PositionIsSpelled }
 {}

@@ -1,7 +1,8 @@
-//! Finite spaces as lists of boundaries: cells of dimensions 0 to 3, each with the list of its facets.
+//! Finite spaces as lists of boundaries: cells of dimensions 0 to 3, each with the list of its
+//! facets.
 //!
-//! Cells are numbered from 1 in each dimension. A vertex has no facet; any other cell has a strictly
-//! increasing, nonempty list of facets, which are cells of one dimension less.
+//! Cells are numbered from 1 in each dimension. A vertex has no facet; any other cell has a
+//! strictly increasing, nonempty list of facets, which are cells of one dimension less.
 #![tactic(auto)]
 
 mod below;

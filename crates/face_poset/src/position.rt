@@ -27,8 +27,8 @@ impl<T: Drop> From<AllocFailed<T>> for PositionFault {
     }
 }
 
-/// A position in a list of sheet tables: a number of sheets and the first cells of a table of so many
-/// sheets, or the start. It has room for a number of cells, which is no part of what makes two
+/// A position in a list of sheet tables: a number of sheets and the first cells of a table of so
+/// many sheets, or the start. It has room for a number of cells, which is no part of what makes two
 /// positions equal.
 #[derive(Drop)]
 pub struct Position {
@@ -75,7 +75,8 @@ impl Position {
     /// The position of 1 to 8 sheets with these cells, at least one, each from 1 to 8.
     pub fn from_cells(alloc: Global, sheets: u8, cells: &[u8]) -> Result<Position, AllocError>
         requires { IsProper sheets cells.now }
-        ensures { IfOk result (λ p. p ≡ record { sheets = sheets; cells = cells.now; room = length cells.now }) }
+        ensures { IfOk result
+            (λ p. p ≡ record { sheets = sheets; cells = cells.now; room = length cells.now }) }
     {
         Ok(Position {
             sheets,
@@ -84,8 +85,8 @@ impl Position {
         })
     }
 
-    /// The position of a text `M:C,C,..`: a number of sheets and at least one cell, each a digit from 1
-    /// to 8. `Form` comes exactly where the text has no such form.
+    /// The position of a text `M:C,C,..`: a number of sheets and at least one cell, each a digit
+    /// from 1 to 8. `Form` comes exactly where the text has no such form.
     pub fn parse(alloc: Global, text: &str) -> Result<Position, PositionFault>
         ensures position { IfOk result (λ p. position_from text.now ≡ Some (p.sheets, p.cells)) }
         ensures room { IfOk result (λ p. p.room ≡ length p.cells) }

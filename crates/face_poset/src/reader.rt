@@ -16,11 +16,11 @@ const MOST_LAYERS: u32 = 4;
 
 /// Reads the space of a boundary list, or answers its first fault.
 ///
-/// The nest is a list of layers; layer n holds the n-cells, from n = 0, and empty layers at the end are
-/// dropped. A vertex is `[1,0]`; any other cell is the number of its facets, at least 1, and then their
-/// numbers, all different. The faults are looked for in this order: `Shape` of the top and of the
-/// layers, `Empty`, `TooHigh`, `TooManyCells`, and then cell by cell, by dimension and number, `Shape`,
-/// `BadCount`, `FaceOutOfRange`, `RepeatedFace`.
+/// The nest is a list of layers; layer n holds the n-cells, from n = 0, and empty layers at the end
+/// are dropped. A vertex is `[1,0]`; any other cell is the number of its facets, at least 1, and
+/// then their numbers, all different. The faults are looked for in this order: `Shape` of the top
+/// and of the layers, `Empty`, `TooHigh`, `TooManyCells`, and then cell by cell, by dimension and
+/// number, `Shape`, `BadCount`, `FaceOutOfRange`, `RepeatedFace`.
 pub fn from_nest(alloc: Global, nest: &Nest) -> Result<Space, SpaceFault>
     ensures space { IfOk result (λ space. space_of (view nest.now) ≡ Ok space) }
     // Want of memory may be answered to any nest.
@@ -124,7 +124,8 @@ fn read_layers(alloc: Global, tops: &Items) -> Result<[Lists; 4], SpaceFault>
 /// Reads the cells of a dimension, where the layer before has `below` cells.
 fn read_layer(alloc: Global, dim: u8, below: usize, tops: &Items) -> Result<Lists, SpaceFault>
     ensures cells { IfOk result (λ cells. layer_from dim below (cells_in (kept tops.now) dim) ≡ Ok cells) }
-    ensures fault { IfErr result (λ fault. fault ≢ SpaceFault.Memory → layer_from dim below (cells_in (kept tops.now) dim) ≡ Err fault) }
+    ensures fault { IfErr result (λ fault. fault ≢ SpaceFault.Memory
+        → layer_from dim below (cells_in (kept tops.now) dim) ≡ Err fault) }
 {
     let index = u32::from(dim);
     if index < tops.len() {
@@ -137,7 +138,8 @@ fn read_layer(alloc: Global, dim: u8, below: usize, tops: &Items) -> Result<List
 /// Reads the cells of a layer.
 fn read_cells(alloc: Global, dim: u8, below: usize, nest: &Nest) -> Result<Lists, SpaceFault>
     ensures cells { IfOk result (λ cells. layer_from dim below (inner (view nest.now)) ≡ Ok cells) }
-    ensures fault { IfErr result (λ fault. fault ≢ SpaceFault.Memory → layer_from dim below (inner (view nest.now)) ≡ Err fault) }
+    ensures fault { IfErr result (λ fault. fault ≢ SpaceFault.Memory
+        → layer_from dim below (inner (view nest.now)) ≡ Err fault) }
 {
     let mut cells = Lists::new(alloc);
     let Nest::List { items, .. } = nest else {

@@ -19,8 +19,8 @@ use std::marker::Model;
 /// The most cells that a space may have.
 pub(crate) const MOST_CELLS: usize = 60_000;
 
-/// A space with at least one vertex and at most 60,000 cells in all. Contracts see it as four lists of
-/// cells, each cell as the list of its facets.
+/// A space with at least one vertex and at most 60,000 cells in all. Contracts see it as four lists
+/// of cells, each cell as the list of its facets.
 #[derive(Drop)]
 pub struct Space {
     facets: [Lists; 4],
@@ -36,7 +36,8 @@ impl Model for Space {
 
     ghost view = { λ s. s.facets };
 
-    ghost invariant = { λ s. IsSpace s.facets × IsLimited s.facets × (s.cofaces ≡ coface_layers s.facets) };
+    ghost invariant = { λ s.
+        IsSpace s.facets × IsLimited s.facets × (s.cofaces ≡ coface_layers s.facets) };
 }
 
 impl Space {

@@ -1,5 +1,5 @@
-// The worked examples of spaces and of lists that are none, printing and reading again, the most cells
-// that a space may have, and positions.
+// The worked examples of spaces and of lists that are none, printing and reading again, the most
+// cells that a space may have, and positions.
 use crate::{
     BuildFault, Builder, Cell, Graded, Position, PositionFault, Space, SpaceFault, from_nest,
 };
