@@ -1,6 +1,5 @@
-pub mod Words
-pub mod Points
 pub mod Input
+pub mod Spaces
 pub mod Refusals
 pub mod Answers
 pub mod Outcomes

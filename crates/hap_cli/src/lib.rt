@@ -5,13 +5,14 @@
 #![tactic(auto)]
 
 mod cells;
-mod command;
 mod input;
 mod outcome;
-mod points;
+mod refusal;
 mod running;
+mod space;
 
-pub use outcome::{Outcome, Refusal, end_with};
+pub use outcome::{Outcome, end_with};
+pub use refusal::Refusal;
 pub use running::run;
 
 #[cfg(test)]

@@ -1,20 +1,13 @@
 // How a run ends.
-ghost use Rattle.std.specs.Prelude.{◌≡◌, ◌++◌, codes, decimal};
+ghost use Rattle.std.specs.Prelude.{◌≡◌};
 ghost use Rattle.hap_outside.specs.Causes.{Rose, HasCause};
 ghost use Rattle.hap_outside.specs.Writes.{Writes};
-ghost use Rattle.hap_cli.specs.Outcomes.{status_of, line_of, Tells};
-ghost use Rattle.hap_cli.specs.Refusals.{refusal_status, refusal_line};
+ghost use Rattle.hap_cli.specs.Outcomes.{status_of, line_of, usage_line, Tells};
 
-use hap_outside::{Failed, Piece, Sink, write_all, write_pieces};
-
-/// Why a command refuses its input.
-#[derive(Clone, Copy, Debug, PartialEq, Eq)]
-pub enum Refusal {
-    /// The input has more bytes than this limit.
-    TooLong(u64),
-    /// The input is no text of points.
-    Text,
-}
+use crate::refusal::{Refusal, refusal_code, write_refusal};
+use face_poset::SpaceFault;
+use gap_text::TextFault;
+use hap_outside::{Failed, Sink, write_all};
 
 /// How a run ends.
 #[derive(Clone, Copy, Debug, PartialEq, Eq)]
@@ -33,12 +26,31 @@ pub enum Outcome {
     Memory,
 }
 
-fn refusal_code(refusal: Refusal) -> u8
-    ensures { result ≡ refusal_status refusal }
-{
-    match refusal {
-        Refusal::TooLong(_) => 5,
-        Refusal::Text => 3,
+impl From<TextFault> for Outcome {
+    ghost use Rattle.std.specs.Prelude.{◌≡◌};
+    ghost use Rattle.hap_cli.specs.Outcomes.{text_outcome};
+
+    ghost from_gives = { λ fault outcome. outcome ≡ text_outcome fault };
+
+    fn from(fault: TextFault) -> Outcome {
+        match fault {
+            TextFault::Memory => Outcome::Memory,
+            _ => Outcome::Refused(Refusal::Text(fault)),
+        }
+    }
+}
+
+impl From<SpaceFault> for Outcome {
+    ghost use Rattle.std.specs.Prelude.{◌≡◌};
+    ghost use Rattle.hap_cli.specs.Outcomes.{space_outcome};
+
+    ghost from_gives = { λ fault outcome. outcome ≡ space_outcome fault };
+
+    fn from(fault: SpaceFault) -> Outcome {
+        match fault {
+            SpaceFault::Memory => Outcome::Memory,
+            _ => Outcome::Refused(Refusal::Space(fault)),
+        }
     }
 }
 
@@ -55,29 +67,14 @@ fn status(outcome: Outcome) -> u8
     }
 }
 
-fn write_limit<E: Sink>(err: &mut E, limit: u64) -> Result<(), Failed>
-    ensures bytes { Writes (E.written err.old) (E.written err.new)
-        (codes "hap: limit: input over " ++ (decimal limit ++ codes " bytes\n")) result }
+fn write_usage<E: Sink>(err: &mut E) -> Result<(), Failed>
+    ensures bytes { Writes (E.written err.old) (E.written err.new) usage_line result }
     ensures cause { HasCause (E.faults err.old) (E.faults err.new) result }
 {
-    write_pieces(
+    write_all(
         err,
-        &[
-            Piece::Text(b"hap: limit: input over "),
-            Piece::Count(limit),
-            Piece::Text(b" bytes\n"),
-        ],
+        b"hap: usage: hap COMMAND [--kind K] [--in NAME] [--mod P] [--sheets N] [--budget B] [--from T] [--index I] [--size N]\n",
     )
-}
-
-fn write_refusal<E: Sink>(err: &mut E, refusal: Refusal) -> Result<(), Failed>
-    ensures bytes { Writes (E.written err.old) (E.written err.new) (refusal_line refusal) result }
-    ensures cause { HasCause (E.faults err.old) (E.faults err.new) result }
-{
-    match refusal {
-        Refusal::TooLong(limit) => write_limit(err, limit),
-        Refusal::Text => write_all(err, b"hap: text\n"),
-    }
 }
 
 fn write_line<E: Sink>(err: &mut E, outcome: Outcome) -> Result<(), Failed>
@@ -87,7 +84,7 @@ fn write_line<E: Sink>(err: &mut E, outcome: Outcome) -> Result<(), Failed>
 {
     match outcome {
         Outcome::Done => Ok(()),
-        Outcome::Usage => write_all(err, b"hap: usage: hap cells\n"),
+        Outcome::Usage => write_usage(err),
         Outcome::Refused(refusal) => write_refusal(err, refusal),
         Outcome::ReadFault => write_all(err, b"hap: read fault\n"),
         Outcome::WriteFault => write_all(err, b"hap: write fault\n"),

@@ -8,6 +8,7 @@ use std::sync::ledger::{Blank, Ledger};
 use std::test::Fail;
 
 const POINT: &[u8] = b"[[[1,0]]]";
+const USAGE: &[u8] = b"hap: usage: hap COMMAND [--kind K] [--in NAME] [--mod P] [--sheets N] [--budget B] [--from T] [--index I] [--size N]\n";
 
 fn run_on<L: Ledger>(
     alloc: Global,
@@ -26,59 +27,128 @@ fn run_on<L: Ledger>(
     run(alloc, words, source, out, err, &mut steps)
 }
 
-fn run_word(
+fn run_words(
     alloc: Global,
-    word: &str,
+    line: &[&str],
     source: &mut Bytes,
     out: &mut Paper,
     err: &mut Paper,
 ) -> Result<u8, AllocError>
     requires { source.old.begun ≡ false }
 {
-    let words = vec![in alloc; String::from_str(alloc, word)?]?;
+    let mut words = Vec::new(alloc);
+    for word in line {
+        words.push(String::from_str(alloc, word)?)?;
+    }
     Ok(run_on::<Brand>(alloc, &words, source, out, err, Blank::new(1)))
 }
 
 #[test]
-fn the_point_has_one_vertex(rt: HostRuntime) -> Result<(), Fail> {
+fn cells_are_counted(rt: HostRuntime) -> Result<(), Fail> {
+    let alloc = rt.alloc();
+    for (input, text) in [
+        (POINT, b"cells 1 0 0 0\neuler 1\n".as_slice()),
+        (
+            b"[[[1,0],[1,0]],[[2,1,2],[2,1,2]]]",
+            b"cells 2 2 0 0\neuler 0\n",
+        ),
+        (
+            b"[[[1,0],[1,0]],[[2,1,2],[2,1,2]],[[2,1,2],[2,1,2]],[[2,1,2],[2,1,2]]]",
+            b"cells 2 2 2 2\neuler 0\n",
+        ),
+        (
+            b"[[[1,0],[1,0]],[[2,1,2],[2,1,2],[2,1,2]],[]]",
+            b"cells 2 3 0 0\neuler -1\n",
+        ),
+        (b" [ [ [1,0] ] , [] ] ; # a point\n", b"cells 1 0 0 0\neuler 1\n"),
+    ] {
+        let mut source = Bytes::new(alloc);
+        source.put(None, input)?;
+        let mut out = Paper::new(alloc, 100)?;
+        let mut err = Paper::new(alloc, 100)?;
+        let status = run_words(alloc, &["cells"], &mut source, &mut out, &mut err)?;
+        assert_eq!(rt; status, 0);
+        assert_eq!(rt; out.bytes(), text);
+        assert_eq!(rt; err.bytes(), b"".as_slice());
+    }
+    Ok(())
+}
+
+#[test]
+fn a_named_input_is_read(rt: HostRuntime) -> Result<(), Fail> {
     let alloc = rt.alloc();
     let mut source = Bytes::new(alloc);
-    source.put(None, POINT)?;
+    source.put(None, b"none of it")?;
+    source.put(Some("point"), POINT)?;
     let mut out = Paper::new(alloc, 100)?;
     let mut err = Paper::new(alloc, 100)?;
-    assert_eq!(rt;
-        run_word(alloc, "cells", &mut source, &mut out, &mut err)?,
-        0
-    );
+    let line = ["--in", "point", "cells", "--kind=boundary"];
+    let status = run_words(alloc, &line, &mut source, &mut out, &mut err)?;
+    assert_eq!(rt; status, 0);
     assert_eq!(rt; out.bytes(), b"cells 1 0 0 0\neuler 1\n".as_slice());
-    assert_eq!(rt; err.bytes(), b"".as_slice());
     Ok(())
 }
 
 #[test]
 fn refusals_have_their_status_and_line(rt: HostRuntime) -> Result<(), Fail> {
     let alloc = rt.alloc();
-    let long = vec![in alloc; 0u8; 16_777_217]?;
-    for (word, input, status, line) in [
-        ("cell", POINT, 2, b"hap: usage: hap cells\n".as_slice()),
-        ("cells", b"[[[1,0]],[]]", 3, b"hap: text\n"),
+    let long = vec![in alloc; 32u8; 16_777_217]?;
+    for (input, status, line) in [
+        (b"[1,".as_slice(), 3, b"hap: text: input ends at byte 3\n".as_slice()),
+        (b"[1,3..9]", 3, b"hap: text: stepped range at byte 4\n"),
+        (b"[-1]", 3, b"hap: text: bad byte at byte 1\n"),
+        (b"[1 1]", 3, b"hap: text: stray token at byte 3\n"),
+        (b"[1..]", 3, b"hap: text: bad range at byte 4\n"),
+        (b"4294967296", 3, b"hap: text: number too big at byte 0\n"),
+        (b"[[[[[[[[[", 3, b"hap: text: too deep at byte 8\n"),
+        (b"7", 4, b"hap: space: shape at byte 0\n"),
+        (b"[]", 4, b"hap: space: empty\n"),
+        (b"[[],[],[],[],[[1]]]", 4, b"hap: space: dimension over 3\n"),
+        (b"[[[0]]]", 4, b"hap: space: bad count in dimension 0 cell 1\n"),
         (
-            "cells",
-            &long,
-            5,
-            b"hap: limit: input over 16777216 bytes\n",
+            b"[[[1,0]],[[2,1,2]]]",
+            4,
+            b"hap: space: face out of range in dimension 1 cell 1\n",
         ),
+        (
+            b"[[[1,0]],[[2,1,1]]]",
+            4,
+            b"hap: space: repeated face in dimension 1 cell 1\n",
+        ),
+        (b"[[1..60001]]", 5, b"hap: limit: cells over 60000\n"),
+        (&long, 5, b"hap: limit: input over 16777216 bytes\n"),
     ] {
         let mut source = Bytes::new(alloc);
         source.put(None, input)?;
         let mut out = Paper::new(alloc, 100)?;
-        let mut err = Paper::new(alloc, 100)?;
-        assert_eq!(rt;
-            run_word(alloc, word, &mut source, &mut out, &mut err)?,
-            status
-        );
+        let mut err = Paper::new(alloc, 200)?;
+        let told = run_words(alloc, &["cells"], &mut source, &mut out, &mut err)?;
+        assert_eq!(rt; told, status);
         assert_eq!(rt; out.bytes(), b"".as_slice());
         assert_eq!(rt; err.bytes(), line);
+    }
+    Ok(())
+}
+
+#[test]
+fn other_words_are_usage(rt: HostRuntime) -> Result<(), Fail> {
+    let alloc = rt.alloc();
+    let lines: [&[&str]; 5] = [
+        &[],
+        &["frob"],
+        &["check"],
+        &["cells", "--kind", "arcs"],
+        &["cells", "--sheets", "2"],
+    ];
+    for line in lines {
+        let mut source = Bytes::new(alloc);
+        source.put(None, POINT)?;
+        let mut out = Paper::new(alloc, 100)?;
+        let mut err = Paper::new(alloc, 200)?;
+        let status = run_words(alloc, line, &mut source, &mut out, &mut err)?;
+        assert_eq!(rt; status, 2);
+        assert_eq!(rt; out.bytes(), b"".as_slice());
+        assert_eq!(rt; err.bytes(), USAGE);
     }
     Ok(())
 }
@@ -92,10 +162,8 @@ fn each_read_may_fail(rt: HostRuntime) -> Result<(), Fail> {
         source.fail_at(call)?;
         let mut out = Paper::new(alloc, 100)?;
         let mut err = Paper::new(alloc, 100)?;
-        assert_eq!(rt;
-            run_word(alloc, "cells", &mut source, &mut out, &mut err)?,
-            7
-        );
+        let status = run_words(alloc, &["cells"], &mut source, &mut out, &mut err)?;
+        assert_eq!(rt; status, 7);
         assert_eq!(rt; out.bytes(), b"".as_slice());
         assert_eq!(rt; err.bytes(), b"hap: read fault\n".as_slice());
     }
@@ -109,19 +177,22 @@ fn each_write_may_fail(rt: HostRuntime) -> Result<(), Fail> {
         (1, b"".as_slice()),
         (2, b"cells "),
         (3, b"cells 1"),
-        (4, b"cells 1 0 0 0\n"),
-        (5, b"cells 1 0 0 0\neuler "),
-        (6, b"cells 1 0 0 0\neuler 1"),
+        (4, b"cells 1 "),
+        (5, b"cells 1 0"),
+        (6, b"cells 1 0 "),
+        (7, b"cells 1 0 0"),
+        (8, b"cells 1 0 0 "),
+        (9, b"cells 1 0 0 0"),
+        (10, b"cells 1 0 0 0\neuler "),
+        (11, b"cells 1 0 0 0\neuler 1"),
     ] {
         let mut source = Bytes::new(alloc);
         source.put(None, POINT)?;
         let mut out = Paper::new(alloc, 100)?;
         out.fail_at(call)?;
         let mut err = Paper::new(alloc, 100)?;
-        assert_eq!(rt;
-            run_word(alloc, "cells", &mut source, &mut out, &mut err)?,
-            8
-        );
+        let status = run_words(alloc, &["cells"], &mut source, &mut out, &mut err)?;
+        assert_eq!(rt; status, 8);
         assert_eq!(rt; out.bytes(), front);
         assert_eq!(rt; err.bytes(), b"hap: write fault\n".as_slice());
     }
@@ -134,10 +205,8 @@ fn a_fault_of_err_changes_no_status(rt: HostRuntime) -> Result<(), Fail> {
     let mut source = Bytes::new(alloc);
     let mut out = Paper::new(alloc, 100)?;
     let mut err = Paper::new(alloc, 5)?;
-    assert_eq!(rt;
-        run_word(alloc, "cells", &mut source, &mut out, &mut err)?,
-        7
-    );
+    let status = run_words(alloc, &["cells"], &mut source, &mut out, &mut err)?;
+    assert_eq!(rt; status, 7);
     assert_eq!(rt; err.bytes(), b"hap: ".as_slice());
     assert_eq!(rt; end_with(&mut Tally::new(), Outcome::Memory), 9);
     Ok(())

@@ -1,0 +1,12 @@
+pub mod Words
+pub mod Poset
+pub mod Positions
+pub mod Reader
+pub mod Laws
+pub mod Layers
+pub mod Signs
+pub mod Text
+pub mod Below
+pub mod Cuts
+pub mod Cofaces
+pub mod Rooms
