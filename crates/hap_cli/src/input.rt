@@ -13,7 +13,11 @@ use std::alloc::Global;
 pub const MOST_BYTES: u64 = 16_777_216;
 
 /// All bytes of the input.
-pub fn read_input<S: Source>(alloc: Global, input: &Input, source: &mut S) -> Result<Vec<u8>, ReadAll>
+pub fn read_input<S: Source>(
+    alloc: Global,
+    input: &Input,
+    source: &mut S,
+) -> Result<Vec<u8>, ReadAll>
     requires { S.begun source.old ≡ false }
     ensures bytes { IfOk result (λ bytes. (length bytes.items ≤ 16777216)
         × OnInput (cells (source_of input.now)) (S.store source.old) (λ told. bytes.items ≡ told)) }

@@ -8,7 +8,9 @@ use std::sync::ledger::{Blank, Ledger};
 use std::test::Fail;
 
 const POINT: &[u8] = b"[[[1,0]]]";
-const USAGE: &[u8] = b"hap: usage: hap COMMAND [--kind K] [--in NAME] [--mod P] [--sheets N] [--budget B] [--from T] [--index I] [--size N]\n";
+
+const USAGE: &[u8] =
+    b"hap: usage: hap COMMAND [--kind K] [--in NAME] [--mod P] [--sheets N] [--budget B] [--from T] [--index I] [--size N]\n";
 
 fn run_on<L: Ledger>(
     alloc: Global,
@@ -60,7 +62,10 @@ fn cells_are_counted(rt: HostRuntime) -> Result<(), Fail> {
             b"[[[1,0],[1,0]],[[2,1,2],[2,1,2],[2,1,2]],[]]",
             b"cells 2 3 0 0\neuler -1\n",
         ),
-        (b" [ [ [1,0] ] , [] ] ; # a point\n", b"cells 1 0 0 0\neuler 1\n"),
+        (
+            b"[ [ [ 1, 0 ], [ 1, 0 ] ],\n  [ [ 2, 1, 2 ], [ 2, 1, 2 ] ], # a circle\n  [] ];\n",
+            b"cells 2 2 0 0\neuler 0\n",
+        ),
     ] {
         let mut source = Bytes::new(alloc);
         source.put(None, input)?;
@@ -94,7 +99,11 @@ fn refusals_have_their_status_and_line(rt: HostRuntime) -> Result<(), Fail> {
     let alloc = rt.alloc();
     let long = vec![in alloc; 32u8; 16_777_217]?;
     for (input, status, line) in [
-        (b"[1,".as_slice(), 3, b"hap: text: input ends at byte 3\n".as_slice()),
+        (
+            b"[1,".as_slice(),
+            3,
+            b"hap: text: input ends at byte 3\n".as_slice(),
+        ),
         (b"[1,3..9]", 3, b"hap: text: stepped range at byte 4\n"),
         (b"[-1]", 3, b"hap: text: bad byte at byte 1\n"),
         (b"[1 1]", 3, b"hap: text: stray token at byte 3\n"),
@@ -104,7 +113,11 @@ fn refusals_have_their_status_and_line(rt: HostRuntime) -> Result<(), Fail> {
         (b"7", 4, b"hap: space: shape at byte 0\n"),
         (b"[]", 4, b"hap: space: empty\n"),
         (b"[[],[],[],[],[[1]]]", 4, b"hap: space: dimension over 3\n"),
-        (b"[[[0]]]", 4, b"hap: space: bad count in dimension 0 cell 1\n"),
+        (
+            b"[[[0]]]",
+            4,
+            b"hap: space: bad count in dimension 0 cell 1\n",
+        ),
         (
             b"[[[1,0]],[[2,1,2]]]",
             4,
@@ -133,9 +146,32 @@ fn refusals_have_their_status_and_line(rt: HostRuntime) -> Result<(), Fail> {
 #[test]
 fn other_words_are_usage(rt: HostRuntime) -> Result<(), Fail> {
     let alloc = rt.alloc();
-    let lines: [&[&str]; 5] = [
+    let lines: [&[&str]; 28] = [
         &[],
+        &["cells", "--mod", "2"],
+        &["betti", "--mod", "6"],
+        &["betti", "--mod", "4"],
+        &["covers", "--sheets", "0"],
+        &["covers"],
         &["frob"],
+        &["cells", "cells"],
+        &["cells", "--kind"],
+        &["cells", "--kind", "knot"],
+        &["make"],
+        &["make", "--size", "1"],
+        &["make", "--size", "20"],
+        &["betti", "--mod", "2", "--mod", "2"],
+        &["cells", "--help"],
+        &["--help"],
+        &["cover", "--sheets", "2"],
+        &["covers", "--sheets", "6"],
+        &["covers", "--sheets", "2", "--budget", "0"],
+        &["covers", "--sheets", "2", "--from", "-"],
+        &["covers", "--sheets", "2", "--from", "2:"],
+        &["covers", "--sheets", "2", "--from", "2:9"],
+        &["cells", "-h"],
+        &["cells", "--kind=cubical", "--kind=cubical"],
+        &["verify", "--kind", "boundary"],
         &["check"],
         &["cells", "--kind", "arcs"],
         &["cells", "--sheets", "2"],

@@ -1,5 +1,5 @@
 -- The numbers of decimal digits.
-use Rattle.std.proofs.Common.{◌<◌, ◌≤◌, ◌+◌, ◌*◌, ◌^◌, ℕ, arith, lit<, lit≤, Fits, w64}
+use Rattle.std.proofs.Common.{◌<◌, ◌≤◌, ◌+◌, ◌*◌, ◌^◌, ℕ, arith, lit<, Fits, w64}
 use Rattle.std.proofs.Math.Nat.{pow-le-pow_right}
 
 -- fewer than 18 digits stay below 10 ^ 17

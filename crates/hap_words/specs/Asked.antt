@@ -1,5 +1,5 @@
 -- The commands with their options as values.
-use Rattle.std.specs.Prelude.{◌≡◌, ℕ, List, option_map, string_bytes}
+use Rattle.std.specs.Prelude.{ℕ, List, option_map, string_bytes}
 use Rattle.std.specs.declared.option.Option.{Option}
 use Rattle.face_poset.specs.Positions.{Place}
 use Rattle.hap_words.specs.declared.command.Kind.{Kind}

@@ -1,4 +1,4 @@
-use Rattle.std.proofs.Common.{sym, ◌∙◌}
+use Rattle.std.proofs.Common.{◌∙◌}
 use Rattle.hap_words.proofs.Faults.{refused}
 use Rattle.hap_words.proofs.reader.read_any.Goals as goal
 
