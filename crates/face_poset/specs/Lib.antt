@@ -1,0 +1,4 @@
+pub mod Words
+pub mod Poset
+pub mod Below
+pub mod Signs

@@ -1,0 +1,6 @@
+//! Spaces.
+#![tactic(auto)]
+
+mod cells;
+
+pub use cells::{Cell, CellList, Pair};

@@ -1,0 +1,3 @@
+pub mod Alternating
+pub mod Rows
+pub mod Classes

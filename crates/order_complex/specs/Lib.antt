@@ -1,0 +1,4 @@
+pub mod Chains
+pub mod Cochains
+pub mod Homology
+pub mod Cup
