@@ -1,3 +1,9 @@
 pub mod Alternating
 pub mod Rows
 pub mod Classes
+pub mod Members
+pub mod Faces
+pub mod Chained
+pub mod Twice
+pub mod Ordered
+pub mod Evaluation

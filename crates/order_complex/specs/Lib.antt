@@ -2,3 +2,4 @@ pub mod Chains
 pub mod Cochains
 pub mod Homology
 pub mod Cup
+pub mod Order
