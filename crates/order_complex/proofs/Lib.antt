@@ -7,3 +7,4 @@ pub mod Chained
 pub mod Twice
 pub mod Ordered
 pub mod Evaluation
+pub mod Bases
