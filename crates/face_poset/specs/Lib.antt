@@ -1,4 +1,0 @@
-pub mod Words
-pub mod Poset
-pub mod Below
-pub mod Signs

@@ -1,6 +1,0 @@
-//! Spaces.
-#![tactic(auto)]
-
-mod cells;
-
-pub use cells::{Cell, CellList, Pair};
