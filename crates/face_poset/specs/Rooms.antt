@@ -1,0 +1,31 @@
+-- Lists that lie one after another, each in a room of its own.
+use Rattle.std.specs.Prelude.{◌≡◌, ℕ, ◌+◌, ◌-◌, ◌<◌, ◌≤◌, List, [], ◌∷◌, ◌++◌, length, cond, slice_index_or, take, drop}
+use Rattle.face_poset.specs.Words.{holds}
+
+-- how many entries each list has room for, and what it holds so far
+pub record Filling : Type 0 where
+  pub rooms : List ℕ
+  pub parts : List (List ℕ)
+
+-- the sizes of the rooms, by their ends
+abbrev pub widths : ℕ → List ℕ → List ℕ
+widths start [] = []
+widths start (end ∷ ends) = (end - start) ∷ widths end ends
+
+-- what the rooms hold, by their ends and by the places where the next entries go
+abbrev pub filled : ℕ → List ℕ → List ℕ → List ℕ → List (List ℕ)
+filled start [] nexts xs = []
+filled start (end ∷ ends) [] xs = []
+filled start (end ∷ ends) (next ∷ nexts) xs = take (next - start) (drop start xs) ∷ filled end ends nexts xs
+
+-- each next place is within its room, and the last room ends where the entries end
+abbrev pub IsFilled : ℕ → List ℕ → List ℕ → ℕ → Type 0
+IsFilled start [] [] total = start ≡ total
+IsFilled start [] (next ∷ nexts) total = ⊥
+IsFilled start (end ∷ ends) [] total = ⊥
+IsFilled start (end ∷ ends) (next ∷ nexts) total = (start ≤ next) × (next ≤ end) × IsFilled end ends nexts total
+
+-- in the new lists, those with these numbers (counted from 1) have one entry more at their ends
+abbrev pub AllGain : List ℕ → ℕ → List (List ℕ) → List (List ℕ) → Type 0
+AllGain numbers value old new =
+    (k : ℕ) → k < length old → slice_index_or new k [] ≡ slice_index_or old k [] ++ cond (holds numbers (k + 1)) (value ∷ []) []
