@@ -17,4 +17,5 @@ mod space;
 pub use builder::{BuildFault, Builder};
 pub use cells::{Cell, CellList, Pair};
 pub use graded::{Graded, Signed};
+pub use lists::Lists;
 pub use space::Space;

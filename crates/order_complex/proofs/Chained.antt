@@ -7,7 +7,7 @@ use Rattle.face_poset.specs.Poset.{cell_count}
 use Rattle.order_complex.specs.Chains.{all_faces, above, chains_from, chains_of}
 use Rattle.order_complex.specs.Cochains.{leave_out}
 use Rattle.order_complex.proofs.Members.{Member, member-map, map-member, member-flat_map, flat_map-member, member-filter, filter-member, holds-member, member-holds, member-upto, upto-member}
-use Rattle.order_complex.proofs.Faces.{faces_at, face_of_face, face-below, length-all_faces}
+use Rattle.order_complex.proofs.FaceIds.{faces_at, face_of_face, face-below, length-all_faces}
 
 module _ (space : List (List (List ℕ))) where
   abbrev faces : List (List ℕ)
@@ -18,7 +18,7 @@ module _ (space : List (List (List ℕ))) where
     pub high : upper ≤ cell_count space
     pub face : Member cell (faces_at space upper)
 
-  above-member : (cell upper : ℕ) → Member upper (above faces cell) → IsAbove cell upper
+  pub above-member : (cell upper : ℕ) → Member upper (above faces cell) → IsAbove cell upper
   above-member cell upper h =
       let r = filter-member (λ u. holds (get_or faces (u - 1) []) cell) upper (upto (length faces)) h in
       let b = upto-member (length faces) upper r.0 in
@@ -37,7 +37,7 @@ module _ (space : List (List (List ℕ))) where
   Follows cell [] = ⊤
   Follows cell (next ∷ rest) = IsAbove cell next × Follows next rest
 
-  chains_from-member : (more cell : ℕ) (chain : List ℕ) → Member chain (chains_from faces more cell) → (rest : List ℕ) × (chain ≡ cell ∷ rest) × (length rest ≡ more) × Follows cell rest
+  pub chains_from-member : (more cell : ℕ) (chain : List ℕ) → Member chain (chains_from faces more cell) → (rest : List ℕ) × (chain ≡ cell ∷ rest) × (length rest ≡ more) × Follows cell rest
   chains_from-member zero cell chain (inl e) = ([], e, refl, tt)
   chains_from-member zero cell chain (inr h) = absurd h
   chains_from-member (suc more) cell chain h =

@@ -2,9 +2,12 @@ pub mod Alternating
 pub mod Rows
 pub mod Classes
 pub mod Members
-pub mod Faces
+pub mod FaceIds
 pub mod Chained
 pub mod Twice
 pub mod Ordered
 pub mod Evaluation
 pub mod Bases
+pub mod Steps
+pub mod Extended
+pub mod Compare

@@ -1,10 +1,10 @@
 -- The order complex of a space: its chains are the strictly increasing sequences of cells, each a face of the next.
 -- (The barycentric subdivision; textbook.) A cell is written by its id, which counts all cells from 1, vertices first.
-use Rattle.std.specs.Prelude.{ℕ, zero, suc, ◌+◌, ◌-◌, List, [], ◌∷◌, ◌++◌, map, length, filter, slice_index_or}
+use Rattle.std.specs.Prelude.{ℕ, zero, suc, ◌+◌, List, [], ◌∷◌, map, length}
 use Rattle.std.specs.List.{flat_map}
 use Rattle.face_poset.specs.declared.cells.Cell.{Cell}
-use Rattle.face_poset.specs.Words.{upto, holds}
-use Rattle.face_poset.specs.Poset.{count, cell_count}
+use Rattle.face_poset.specs.Words.{upto}
+use Rattle.face_poset.specs.Poset.{count, cells_with}
 use Rattle.face_poset.specs.Below.{cell_at, closure, facets_of_all}
 
 -- how many cells have a smaller dimension
@@ -30,7 +30,7 @@ all_faces space = map (λ cell. faces_of space cell.dim cell.number) (all_cells 
 
 -- where `faces` lists the faces of each cell: the ids of the cells of which the cell is a face, increasing
 abbrev pub above : List (List ℕ) → (cell : ℕ) → List ℕ
-above faces cell = filter (λ upper. holds (slice_index_or faces (upper - 1) []) cell) (upto (length faces))
+above faces cell = cells_with faces cell
 
 -- the chains from a cell on with so many cells more
 abbrev pub chains_from : List (List ℕ) → (more cell : ℕ) → List (List ℕ)

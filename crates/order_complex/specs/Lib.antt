@@ -3,3 +3,5 @@ pub mod Cochains
 pub mod Homology
 pub mod Cup
 pub mod Order
+pub mod Complex
+pub mod Listing

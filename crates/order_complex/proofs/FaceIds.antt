@@ -1,8 +1,8 @@
 -- The faces of a face of a cell are faces of the cell, by ids.
-use Rattle.std.proofs.Common.{lit≤, ◌≡◌, ◌⊎◌, inl, inr, ℕ, zero, suc, ◌+◌, ◌-◌, ◌<◌, ◌≤◌, List, [], ◌∷◌, ◌++◌, Bool, true, false, cond, map, filter, length, get_or, refl, ap, sym, ◌∙◌, subst, arith}
+use Rattle.std.proofs.Common.{lit≤, ◌≡◌, ◌⊎◌, inl, inr, ℕ, zero, suc, ◌+◌, ◌-◌, ◌<◌, ◌≤◌, List, [], ◌∷◌, ◌++◌, Bool, true, false, cond, map, filter, take, length, get_or, refl, ap, sym, ◌∙◌, subst, arith}
 use Rattle.std.specs.List.{flat_map, list_any, range_with_len}
 use Rattle.std.proofs.lemmas.List.Concat.{flat_map-cons}
-use Rattle.std.proofs.lemmas.List.{get_or-map, get_or-append_right, append-nil, length-append, length-map, append_assoc}
+use Rattle.std.proofs.lemmas.List.{get_or-map, get_or-append_right, append-nil, length-append, length-map, append_assoc, map-append}
 use Rattle.std.proofs.Math.ListN.{get_or-append}
 use Rattle.std.proofs.lemmas.List.FromFn.{length-range_with_len, get_or-map-range_with_len}
 use native.Mathlib.Decide.{dec_lt}
@@ -10,7 +10,7 @@ use Prim.{yes, no}
 use Rattle.face_poset.specs.declared.cells.Cell.{Cell}
 use Rattle.face_poset.specs.Words.{upto, holds}
 use Rattle.face_poset.specs.Poset.{count, cell_count, facets_of}
-use Rattle.face_poset.specs.Below.{cell_at, closure, facets_of_all}
+use Rattle.face_poset.specs.Below.{cell_at, closed_cell, closure, facets_of_all}
 use Rattle.order_complex.specs.Chains.{cells_before, id_of, all_cells, faces_of, all_faces}
 use Rattle.order_complex.proofs.Members.{Member, Within, member-left, member-right, append-member, member-map, map-member, member-filter, filter-member, list_any-member, member-list_any, holds-member, member-holds, member-upto, upto-member}
 
@@ -215,3 +215,50 @@ module _ (space : List (List (List ℕ))) where
       let same : faces_at b ≡ faces_of space x.dim x.number = ap faces_at x.is ∙ faces_at-cell x.dim x.number x.small x.low x.high in
       let r = faces_of-below x.dim x.number a x.small x.low (subst (Member a) same h) in
       (r.0, omega (arith, r.1, x.is))
+
+  -- ---- the list of a closed cell
+
+  in_range : (dim n : ℕ) → 1 ≤ n → n ≤ count space dim → (m : ℕ) → Member m (n ∷ []) → (1 ≤ m) × (m ≤ count space dim)
+  in_range dim n low high m (inl e) = (omega arith, omega arith)
+  in_range dim n low high m (inr h) = absurd h
+
+  member-at : (xs : List Cell) (i : ℕ) (d : Cell) → i < length xs → Member (get_or xs i d) xs
+  member-at [] i d l = absurd (omega arith)
+  member-at (x ∷ xs) zero d l = inl refl
+  member-at (x ∷ xs) (suc i) d l = inr (member-at xs i d (omega arith))
+
+  pub closed_cell-at : (dim n i : ℕ) (d : Cell) → 1 ≤ n → n ≤ count space dim → i < length (closed_cell space dim n) → IsOf (get_or (closed_cell space dim n) i d) × ((get_or (closed_cell space dim n) i d).dim ≤ dim)
+  closed_cell-at dim n i d low high l = closure-of dim (n ∷ []) (get_or (closed_cell space dim n) i d) (in_range dim n low high) (member-at (closed_cell space dim n) i d l)
+
+  -- without its last cell it is the list of the faces
+  pub closed_cell-faces : (dim n : ℕ) → map (id_of space) (take (length (closed_cell space dim n) - 1) (closed_cell space dim n)) ≡ faces_of space dim n
+  closed_cell-faces zero n = refl
+  closed_cell-faces (suc dim) n =
+      let lower : List Cell = closure space dim (facets_of_all space dim (n ∷ [])) in
+      let e : length (lower ++ cell_at (suc dim) n ∷ []) - 1 ≡ length lower = omega (arith, length-append lower (cell_at (suc dim) n ∷ [])) in
+      ap (λ k. map (id_of space) (take k (lower ++ cell_at (suc dim) n ∷ []))) e ∙ ap (map (id_of space)) (take_whole lower (cell_at (suc dim) n ∷ []))
+    where
+      take_whole : (xs ys : List Cell) → take (length xs) (xs ++ ys) ≡ xs
+      take_whole [] ys = refl
+      take_whole (x ∷ xs) ys = ap (λ zs. x ∷ zs) (take_whole xs ys)
+
+  map_map : {A B C : Type 0} (g : B → C) (f : A → B) (xs : List A) → map g (map f xs) ≡ map (λ x. g (f x)) xs
+  map_map g f [] = refl
+  map_map g f (x ∷ xs) = ap (λ r. g (f x) ∷ r) (map_map g f xs)
+
+  abbrev faces_in : ℕ → List (List ℕ)
+  faces_in dim = map (faces_of space dim) (upto (count space dim))
+
+  -- the lists of faces, dimension by dimension
+  pub all_faces-parts : all_faces space ≡ [] ++ faces_in 0 ++ faces_in 1 ++ faces_in 2 ++ faces_in 3
+  unfolding part
+  all_faces-parts =
+      let g : Cell → List ℕ = λ cell. faces_of space cell.dim cell.number in
+      ap (map g) all_cells-parts
+      ∙ map-append g (part 0) (part 1 ++ (part 2 ++ (part 3 ++ [])))
+      ∙ ap (λ r. map g (part 0) ++ r) (map-append g (part 1) (part 2 ++ (part 3 ++ [])))
+      ∙ ap (λ r. map g (part 0) ++ (map g (part 1) ++ r)) (map-append g (part 2) (part 3 ++ []))
+      ∙ ap (λ r. map g (part 0) ++ (map g (part 1) ++ (map g (part 2) ++ r))) (map-append g (part 3) [] ∙ append-nil (map g (part 3)))
+      ∙ sym (append_assoc (map g (part 0)) (map g (part 1)) (map g (part 2) ++ map g (part 3)))
+      ∙ sym (append_assoc (map g (part 0) ++ map g (part 1)) (map g (part 2)) (map g (part 3)))
+      ∙ rw (map_map g (cell_at 0) (upto (count space 0)), map_map g (cell_at 1) (upto (count space 1)), map_map g (cell_at 2) (upto (count space 2)), map_map g (cell_at 3) (upto (count space 3))) refl

@@ -1,0 +1,42 @@
+-- The order complex as a graded set with signs: the facets of a chain are the chains with one entry left out.
+use Rattle.std.specs.Prelude.{ℕ, zero, suc, ◌-◌, ◌==◌, List, [], ◌∷◌, ◌++◌, Bool, false, not, cond, map, slice_index_or, option_map, unwrap_or}
+use Rattle.std.specs.declared.option.Option.{Option}
+use Rattle.std.specs.declared.option.Option.TheVariants.{Some, None}
+use Rattle.std.specs.Str.{bytes_eq}
+use Rattle.order_complex.specs.Chains.{chains_of}
+use Rattle.order_complex.specs.Cochains.{leave_out}
+
+-- the number of a sequence in a list of sequences, counted from 1, if it is there
+abbrev pub number_in : List (List ℕ) → List ℕ → Option ℕ
+number_in [] ids = None
+number_in (chain ∷ chains) ids = cond (bytes_eq chain ids) (Some 1) (option_map suc (number_in chains ids))
+
+abbrev pub number_or_zero : List (List ℕ) → List ℕ → ℕ
+number_or_zero chains ids = unwrap_or (number_in chains ids) 0
+
+-- a chain with one entry left out, the last entry first: so they stand in lexicographic order
+abbrev pub left_out : List ℕ → List (List ℕ)
+left_out [] = []
+left_out (cell ∷ cells) = map (λ chain. cell ∷ chain) (left_out cells) ++ cells ∷ []
+
+-- the facets of each chain of a degree, by their numbers
+abbrev pub facet_lists : List (List (List ℕ)) → (degree : ℕ) → List (List ℕ)
+facet_lists space zero = map (λ chain. []) (chains_of space 0)
+facet_lists space (suc degree) = map (λ chain. map (number_or_zero (chains_of space degree)) (left_out chain)) (chains_of space (suc degree))
+
+abbrev pub complex_of : List (List (List ℕ)) → List (List (List ℕ))
+complex_of space = facet_lists space 0 ∷ facet_lists space 1 ∷ facet_lists space 2 ∷ facet_lists space 3 ∷ []
+
+abbrev pub chain_layers : List (List (List ℕ)) → List (List (List ℕ))
+chain_layers space = chains_of space 0 ∷ chains_of space 1 ∷ chains_of space 2 ∷ chains_of space 3 ∷ []
+
+-- the place of a number in a list, counted from 0, is odd
+abbrev pub stands_odd : List ℕ → ℕ → Bool
+stands_odd [] number = false
+stands_odd (n ∷ ns) number = cond (n == number) false (not (stands_odd ns number))
+
+-- the facet with an entry left out has the sign -1 where the place of the entry, counted from 0, is odd
+abbrev pub negative_in : List (List (List ℕ)) → (degree chain facet : ℕ) → Bool
+negative_in space zero chain facet = false
+negative_in space (suc degree) chain facet =
+    stands_odd (map (number_or_zero (chains_of space degree)) (leave_out (slice_index_or (chains_of space (suc degree)) (chain - 1) []))) facet
