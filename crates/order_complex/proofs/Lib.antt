@@ -11,3 +11,5 @@ pub mod Bases
 pub mod Steps
 pub mod Extended
 pub mod Compare
+pub mod Numbers
+pub mod Graded

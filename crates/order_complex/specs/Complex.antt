@@ -1,5 +1,5 @@
 -- The order complex as a graded set with signs: the facets of a chain are the chains with one entry left out.
-use Rattle.std.specs.Prelude.{ℕ, zero, suc, ◌-◌, ◌==◌, List, [], ◌∷◌, ◌++◌, Bool, false, not, cond, map, slice_index_or, option_map, unwrap_or}
+use Rattle.std.specs.Prelude.{ℕ, zero, suc, ◌-◌, ◌==◌, List, [], ◌∷◌, Bool, false, not, cond, map, reverse, slice_index_or, option_map, unwrap_or}
 use Rattle.std.specs.declared.option.Option.{Option}
 use Rattle.std.specs.declared.option.Option.TheVariants.{Some, None}
 use Rattle.std.specs.Str.{bytes_eq}
@@ -14,15 +14,14 @@ number_in (chain ∷ chains) ids = cond (bytes_eq chain ids) (Some 1) (option_ma
 abbrev pub number_or_zero : List (List ℕ) → List ℕ → ℕ
 number_or_zero chains ids = unwrap_or (number_in chains ids) 0
 
--- a chain with one entry left out, the last entry first: so they stand in lexicographic order
-abbrev pub left_out : List ℕ → List (List ℕ)
-left_out [] = []
-left_out (cell ∷ cells) = map (λ chain. cell ∷ chain) (left_out cells) ++ cells ∷ []
+-- the numbers of the chains that come of one entry left out, the last entry first: a later entry left out gives an earlier chain
+abbrev pub facet_numbers : List (List ℕ) → List ℕ → List ℕ
+facet_numbers chains chain = reverse (map (number_or_zero chains) (leave_out chain))
 
 -- the facets of each chain of a degree, by their numbers
 abbrev pub facet_lists : List (List (List ℕ)) → (degree : ℕ) → List (List ℕ)
 facet_lists space zero = map (λ chain. []) (chains_of space 0)
-facet_lists space (suc degree) = map (λ chain. map (number_or_zero (chains_of space degree)) (left_out chain)) (chains_of space (suc degree))
+facet_lists space (suc degree) = map (facet_numbers (chains_of space degree)) (chains_of space (suc degree))
 
 abbrev pub complex_of : List (List (List ℕ)) → List (List (List ℕ))
 complex_of space = facet_lists space 0 ∷ facet_lists space 1 ∷ facet_lists space 2 ∷ facet_lists space 3 ∷ []

@@ -2,6 +2,7 @@
 #![tactic(auto)]
 
 mod faces;
+mod facets;
 mod fault;
 mod listing;
 mod searching;
