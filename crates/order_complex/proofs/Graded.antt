@@ -83,12 +83,12 @@ module _ (space : List (List (List ℕ))) where
       (first-later c d rest (leave_out (d ∷ rest)) (above-less c d f.0), falling-cons c (leave_out (d ∷ rest)) (leave_out-falls d rest f.1))
 
 -- falling numbers
-Falls : List ℕ → Type 0
+abbrev pub Falls : List ℕ → Type 0
 Falls [] = ⊤
 Falls (x ∷ xs) = AllByRecursion (λ y. y < x) xs × Falls xs
 
 falls-numbers : (chains xs : List (List ℕ)) → IsOrdered chains → ((x : List ℕ) → Member x xs → Member x chains) → FallingSequences xs → Falls (map (number_or_zero chains) xs)
-unfolding FallingSequences Falls
+unfolding FallingSequences
 falls-numbers chains [] o w h = tt
 falls-numbers chains (x ∷ xs) o w h = (smaller xs h.0 (λ y m. w y (inr m)), falls-numbers chains xs o (λ y m. w y (inr m)) h.1)
   where
@@ -97,7 +97,6 @@ falls-numbers chains (x ∷ xs) o w h = (smaller xs h.0 (λ y m. w y (inr m)), f
     smaller (y ∷ ys) g v = (number-rises chains y x o (v y (inl refl)) (w x (inl refl)) g.0, smaller ys g.1 (λ z m. v z (inr m)))
 
 falls-at : (xs : List ℕ) (i j : ℕ) → Falls xs → i < j → j < length xs → get_or xs j 0 < get_or xs i 0
-unfolding Falls
 falls-at [] i j h l m = absurd (omega arith)
 falls-at (x ∷ xs) i zero h l m = absurd (omega arith)
 falls-at (x ∷ xs) zero (suc j) h l m = all-place xs j h.0 (omega arith)
@@ -118,7 +117,7 @@ rises-reversed xs h k l =
 
 -- ---- cells
 
-member-at : {A : Type 0} (xs : List A) (i : ℕ) (d : A) → i < length xs → Member (get_or xs i d) xs
+pub member-at : {A : Type 0} (xs : List A) (i : ℕ) (d : A) → i < length xs → Member (get_or xs i d) xs
 member-at [] i d l = absurd (omega arith)
 member-at (x ∷ xs) zero d l = inl refl
 member-at (x ∷ xs) (suc i) d l = inr (member-at xs i d (omega arith))
@@ -137,6 +136,13 @@ module _ (space : List (List (List ℕ))) where
       let p = placed (chains_of space degree) r.0 (ordered-chains_of space degree) (w r.0 r.1) in
       (omega (arith, p.number, r.2), omega (arith, p.number, p.within, r.2))
 
+  -- the numbers of the chains with one entry left out fall
+  pub numbers-fall : (degree : ℕ) (chain : List ℕ) → Member chain (chains_of space (suc degree)) → Falls (map (number_or_zero (chains_of space degree)) (leave_out chain))
+  numbers-fall degree chain h =
+      let c = chains_of-member space (suc degree) chain h in
+      let falls : FallingSequences (leave_out chain) = subst (λ x. FallingSequences (leave_out x)) (sym c.is) (leave_out-falls space c.first c.rest c.follows) in
+      falls-numbers (chains_of space degree) (leave_out chain) (ordered-chains_of space degree) (leave_out-member space degree chain h) falls
+
   facets-are : (degree : ℕ) (chain : List ℕ) → Member chain (chains_of space (suc degree)) → IsCell (length (chains_of space degree)) (facet_numbers (chains_of space degree) chain)
   facets-are degree chain h =
       let below : List (List ℕ) = chains_of space degree in
@@ -144,9 +150,8 @@ module _ (space : List (List (List ℕ))) where
       let c = chains_of-member space (suc degree) chain h in
       let w : (x : List ℕ) → Member x (leave_out chain) → Member x below = leave_out-member space degree chain h in
       let long : length ns ≡ length chain = length-map (leave_out chain) (number_or_zero below) ∙ length-leave_out chain in
-      let falls : FallingSequences (leave_out chain) = subst (λ x. FallingSequences (leave_out x)) (sym c.is) (leave_out-falls space c.first c.rest c.follows) in
       record {
-        rises = rises-reversed ns (falls-numbers below (leave_out chain) (ordered-chains_of space degree) w falls);
+        rises = rises-reversed ns (numbers-fall degree chain h);
         within = λ i d l.
             let lt : i < length ns = omega (arith, length-reverse ns) in
             let m : Member (get_or ns (length ns - 1 - i) d) ns = member-at ns (length ns - 1 - i) d (omega arith) in

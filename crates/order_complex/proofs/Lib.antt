@@ -13,3 +13,5 @@ pub mod Extended
 pub mod Compare
 pub mod Numbers
 pub mod Graded
+pub mod Integers
+pub mod Cancel
