@@ -16,6 +16,7 @@ mod space;
 
 pub use builder::{BuildFault, Builder};
 pub use cells::{Cell, CellList, Pair};
+pub use cofaces::cofaces_in;
 pub use graded::{Graded, Signed};
 pub use lists::Lists;
 pub use space::Space;

@@ -10,7 +10,7 @@ use Rattle.face_poset.specs.Poset.{cell_count, cells_with}
 use Rattle.face_poset.specs.Cofaces.{coface_lists}
 use Rattle.face_poset.proofs.Members.{length-upto}
 use Rattle.order_complex.specs.Chains.{all_faces, above, chains_from, chains_of}
-use Rattle.order_complex.specs.Listing.{extensions, next_counts}
+use Rattle.order_complex.specs.Listing.{extensions, next_counts, uppers_of}
 use Rattle.std.proofs.lemmas.List.Sums.{sum_by-cons, sum-map}
 use Rattle.order_complex.proofs.Members.{Member, upto-member, flat_map-member}
 use Rattle.order_complex.proofs.FaceIds.{length-all_faces}
@@ -58,29 +58,25 @@ module _ (space : List (List (List ℕ))) where
   abbrev faces : List (List ℕ)
   faces = all_faces space
 
-  -- the cells above each cell, in the order of ids
-  abbrev pub uppers_of : List (List ℕ)
-  uppers_of = coface_lists (length (all_faces space)) (all_faces space)
-
-  pub length-uppers_of : length uppers_of ≡ cell_count space
+  pub length-uppers_of : length (uppers_of space) ≡ cell_count space
   length-uppers_of = length-map (upto (length faces)) (cells_with faces) ∙ length-upto (length faces) ∙ length-all_faces space
 
-  uppers_of-at : (c : ℕ) → 1 ≤ c → c ≤ cell_count space → get_or uppers_of (c - 1) [] ≡ above faces c
+  uppers_of-at : (c : ℕ) → 1 ≤ c → c ≤ cell_count space → get_or (uppers_of space) (c - 1) [] ≡ above faces c
   uppers_of-at c low high = get_or-map-range_with_len (cells_with faces) 1 (length faces) (c - 1) c [] (omega (arith, length-all_faces space)) (omega arith)
 
   one_cell : (c : ℕ) → flat_map (chains_from faces 0) (above faces c) ≡ map (λ b. b ∷ []) (above faces c)
   one_cell c = flat_map_single (λ b. b ∷ []) (above faces c)
 
-  from-extended : (more c : ℕ) → 1 ≤ c → c ≤ cell_count space → flat_map (extensions uppers_of) (chains_from faces more c) ≡ chains_from faces (suc more) c
+  from-extended : (more c : ℕ) → 1 ≤ c → c ≤ cell_count space → flat_map (extensions (uppers_of space)) (chains_from faces more c) ≡ chains_from faces (suc more) c
   from-extended zero c low high =
-      flat_map-cons (extensions uppers_of) (c ∷ []) [] ∙ append-nil (extensions uppers_of (c ∷ []))
+      flat_map-cons (extensions (uppers_of space)) (c ∷ []) [] ∙ append-nil (extensions (uppers_of space) (c ∷ []))
       ∙ ap (map (λ upper. (c ∷ []) ++ upper ∷ [])) (uppers_of-at c low high)
       ∙ sym (ap (map (λ chain. c ∷ chain)) (one_cell c) ∙ map_map (λ chain. c ∷ chain) (λ b. b ∷ []) (above faces c))
   from-extended (suc more) c low high =
-      flat_map-cons-map uppers_of c (flat_map (chains_from faces more) (above faces c)) (λ t m. nonempty t m)
+      flat_map-cons-map (uppers_of space) c (flat_map (chains_from faces more) (above faces c)) (λ t m. nonempty t m)
       ∙ ap (map (λ chain. c ∷ chain))
-        (flat_map-flat_map (extensions uppers_of) (chains_from faces more) (above faces c)
-        ∙ flat_map-members (λ b. flat_map (extensions uppers_of) (chains_from faces more b)) (chains_from faces (suc more)) (above faces c)
+        (flat_map-flat_map (extensions (uppers_of space)) (chains_from faces more) (above faces c)
+        ∙ flat_map-members (λ b. flat_map (extensions (uppers_of space)) (chains_from faces more b)) (chains_from faces (suc more)) (above faces c)
           (λ b m. let a = above-member space c b m in from-extended more b a.low a.high))
     where
       nonempty : (t : List ℕ) → Member t (flat_map (chains_from faces more) (above faces c)) → (y : ℕ) × (ys : List ℕ) × (t ≡ y ∷ ys)
@@ -88,10 +84,10 @@ module _ (space : List (List (List ℕ))) where
           let r = flat_map-member (chains_from faces more) t (above faces c) m in
           let s = chains_from-member space more r.0 t r.2 in (r.0, s.0, s.1)
 
-  pub chains_of-next : (degree : ℕ) → flat_map (extensions uppers_of) (chains_of space degree) ≡ chains_of space (suc degree)
+  pub chains_of-next : (degree : ℕ) → flat_map (extensions (uppers_of space)) (chains_of space degree) ≡ chains_of space (suc degree)
   chains_of-next degree =
-      flat_map-flat_map (extensions uppers_of) (chains_from faces degree) (upto (length faces))
-      ∙ flat_map-members (λ c. flat_map (extensions uppers_of) (chains_from faces degree c)) (chains_from faces (suc degree)) (upto (length faces))
+      flat_map-flat_map (extensions (uppers_of space)) (chains_from faces degree) (upto (length faces))
+      ∙ flat_map-members (λ c. flat_map (extensions (uppers_of space)) (chains_from faces degree c)) (chains_from faces (suc degree)) (upto (length faces))
         (λ c m. let b = upto-member (length faces) c m in from-extended degree c b.0 (omega (arith, b.1, length-all_faces space)))
 
   pub chains_of-zero : chains_of space 0 ≡ map (λ c. c ∷ []) (upto (cell_count space))
@@ -110,7 +106,7 @@ module _ (space : List (List (List ℕ))) where
   map-members f g [] e = refl
   map-members f g (x ∷ xs) e = rw (e x (inl refl), map-members f g xs (λ y m. e y (inr m))) refl
 
-  pub counts_of-next : (more : ℕ) → next_counts uppers_of (counts_of more) ≡ counts_of (suc more)
+  pub counts_of-next : (more : ℕ) → next_counts (uppers_of space) (counts_of more) ≡ counts_of (suc more)
   counts_of-next more =
       map_map (λ cells. sum_by (λ cell. get_or (counts_of more) (cell - 1) 0) cells) (cells_with faces) (upto (length faces))
       ∙ map-members (λ c. sum_by (λ cell. get_or (counts_of more) (cell - 1) 0) (above faces c)) (λ c. length (chains_from faces (suc more) c)) (upto (length faces))

@@ -24,7 +24,7 @@ module _ (space : List (List (List ℕ))) where
       let c = list_any-member p xs r.1 in
       member-filter (λ g. list_any (λ c. holds (facets_of space (dim + 1) c) g) ys) f (upto (count space dim)) r.0 (member-list_any p c.0 ys (w c.0 c.1) c.2)
 
-  facets_of_all-range : (dim : ℕ) (xs : List ℕ) (f : ℕ) → Member f (facets_of_all space dim xs) → (1 ≤ f) × (f ≤ count space dim)
+  pub facets_of_all-range : (dim : ℕ) (xs : List ℕ) (f : ℕ) → Member f (facets_of_all space dim xs) → (1 ≤ f) × (f ≤ count space dim)
   facets_of_all-range dim xs f h =
       upto-member (count space dim) f (filter-member (λ g. list_any (λ c. holds (facets_of space (dim + 1) c) g) xs) f (upto (count space dim)) h).0
 

@@ -15,3 +15,4 @@ pub mod Numbers
 pub mod Graded
 pub mod Integers
 pub mod Cancel
+pub mod ChainBounds

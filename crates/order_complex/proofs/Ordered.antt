@@ -10,7 +10,7 @@ use Rattle.order_complex.specs.Chains.{all_faces, above, chains_from, chains_of}
 use Rattle.order_complex.specs.Order.{Before, IsOrdered}
 use Rattle.order_complex.proofs.Members.{Member, member-map, map-member, flat_map-member}
 
-abbrev Rises : List ℕ → Type 0
+abbrev pub Rises : List ℕ → Type 0
 Rises [] = ⊤
 Rises (x ∷ xs) = AllByRecursion (λ y. x < y) xs × Rises xs
 
@@ -31,7 +31,7 @@ range-above : (low a n : ℕ) → low < a → AllByRecursion (λ y. low < y) (ra
 range-above low a zero h = tt
 range-above low a (suc n) h = (h, range-above low (a + 1) n (omega arith))
 
-rises-range : (a n : ℕ) → Rises (range_with_len a n)
+pub rises-range : (a n : ℕ) → Rises (range_with_len a n)
 rises-range a zero = tt
 rises-range a (suc n) = (range-above a (a + 1) n (omega arith), rises-range (a + 1) n)
 
@@ -47,7 +47,7 @@ rises-cond : (b : Bool) (y : ℕ) (ys : List ℕ) → AllByRecursion (λ z. y < 
 rises-cond true y ys h k = (h, k)
 rises-cond false y ys h k = k
 
-rises-filter : (p : ℕ → Bool) (xs : List ℕ) → Rises xs → Rises (filter p xs)
+pub rises-filter : (p : ℕ → Bool) (xs : List ℕ) → Rises xs → Rises (filter p xs)
 rises-filter p [] h = tt
 rises-filter p (x ∷ xs) h = rises-cond (p x) x (filter p xs) (all-filter (λ z. x < z) p xs h.0) (rises-filter p xs h.1)
 

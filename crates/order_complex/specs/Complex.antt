@@ -1,9 +1,13 @@
 -- The order complex as a graded set with signs: the facets of a chain are the chains with one entry left out.
-use Rattle.std.specs.Prelude.{ℕ, zero, suc, ◌-◌, ◌==◌, List, [], ◌∷◌, Bool, false, not, cond, map, reverse, slice_index_or, option_map, unwrap_or}
+use Rattle.std.specs.Prelude.{◌≡◌, ⊤, ℕ, zero, suc, ◌-◌, ◌≤◌, ◌<◌, ◌==◌, ◌&&◌, nat_le, List, [], ◌∷◌, Bool, false, not, cond, if◌then◌else◌, map, reverse, length, slice_index_or, option_map, unwrap_or}
 use Rattle.std.specs.declared.option.Option.{Option}
 use Rattle.std.specs.declared.option.Option.TheVariants.{Some, None}
 use Rattle.std.specs.Str.{bytes_eq}
-use Rattle.order_complex.specs.Chains.{chains_of}
+use Rattle.face_poset.specs.declared.cells.Cell.{Cell}
+use Rattle.face_poset.specs.Poset.{count}
+use Rattle.order_complex.specs.declared.fault.ChainFault.{ChainFault}
+use Rattle.order_complex.specs.declared.fault.ChainFault.TheVariants.{TooManyChains, Memory}
+use Rattle.order_complex.specs.Chains.{chains_of, id_of}
 use Rattle.order_complex.specs.Cochains.{leave_out}
 
 -- the number of a sequence in a list of sequences, counted from 1, if it is there
@@ -39,3 +43,19 @@ abbrev pub negative_in : List (List (List ℕ)) → (degree chain facet : ℕ) �
 negative_in space zero chain facet = false
 negative_in space (suc degree) chain facet =
     stands_odd (map (number_or_zero (chains_of space degree)) (leave_out (slice_index_or (chains_of space (suc degree)) (chain - 1) []))) facet
+
+-- a limit is passed: the number of chains is above it, and is the number that the refusal carries
+abbrev pub IsRefused : (count limit : ℕ) → ChainFault → Type 0
+IsRefused count limit (TooManyChains n) = (n ≡ count) × (limit < count)
+IsRefused count limit Memory = ⊤
+
+-- the number of a chain of one to four cells, counted from 1 in its degree
+abbrev pub position_of : List (List (List ℕ)) → List ℕ → Option ℕ
+position_of space ids = if nat_le 1 (length ids) && nat_le (length ids) 4 then number_in (chains_of space (length ids - 1)) ids else None
+
+-- the cell with an id
+pub record HasId (space : List (List (List ℕ))) (cell : Cell) (id : ℕ) : Type 0 where
+  pub small : cell.dim ≤ 3
+  pub low : 1 ≤ cell.number
+  pub high : cell.number ≤ count space cell.dim
+  pub is : id_of space cell ≡ id

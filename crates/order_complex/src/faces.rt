@@ -1,7 +1,7 @@
 // The faces of all cells, by ids.
 ghost use Rattle.std.specs.Prelude.{◌≡◌, ◌≤◌, ◌+◌, IfOk, OnOk, map, ◌++◌};
 ghost use Rattle.face_poset.specs.Words.{upto};
-ghost use Rattle.face_poset.specs.Poset.{count};
+ghost use Rattle.face_poset.specs.Poset.{count, cell_count};
 ghost use Rattle.order_complex.specs.Chains.{cells_before, id_of, faces_of, all_faces};
 
 use face_poset::{Cell, Graded, Lists, Space};
@@ -49,8 +49,10 @@ fn face_ids(alloc: Global, space: &Space, dim: u8, number: u32) -> Result<Vec<u3
 
 /// The ids of the faces of each cell, in the order of ids.
 pub fn faces_in(alloc: Global, space: &Space) -> Result<Lists, AllocError>
-    ensures { IfOk result (λ lists. lists ≡ all_faces space.now) }
+    ensures faces { IfOk result (λ lists. lists ≡ all_faces space.now) }
+    ensures few { cell_count space.now ≤ 60000 }
 {
+    let _vertices = space.cells(0);
     let mut faces = Lists::new(alloc);
     push_faces(alloc, space, 0, &mut faces)?;
     push_faces(alloc, space, 1, &mut faces)?;

@@ -6,5 +6,6 @@ mod facets;
 mod fault;
 mod listing;
 mod searching;
+mod uppers;
 
 pub use fault::ChainFault;

@@ -2,7 +2,7 @@
 ghost use Rattle.std.specs.Prelude.{◌≡◌, ◌∷◌, ◌++◌, ◌-◌, ◌+◌, ◌≤◌, [], map, length, slice_index, sum, sum_by, All, IfOk, OnOk};
 ghost use Rattle.std.specs.List.{flat_map};
 ghost use Rattle.face_poset.specs.Words.{upto};
-ghost use Rattle.order_complex.specs.Listing.{extensions, next_counts};
+ghost use Rattle.order_complex.specs.Listing.{extensions, next_counts, counted_chains};
 
 use face_poset::Lists;
 use std::alloc::{AllocError, Global};
@@ -79,4 +79,30 @@ pub fn counted(alloc: Global, counts: &[u64], uppers: &Lists) -> Result<Vec<u64>
         next.push(sum_at(counts, uppers.get(index))?)?;
     }
     Ok(next)
+}
+
+/// The sum of the counts.
+fn total_of(counts: &[u64]) -> Result<u64, AllocError>
+    ensures { IfOk result (λ total. total ≡ sum counts.now) }
+{
+    let mut total: u64 = 0;
+    for count in counts {
+        total = total.checked_add(*count).ok_or(AllocError)?;
+    }
+    Ok(total)
+}
+
+/// How many chains there are of degrees 0 to 3. (A space has too few cells for a sum past 64 bits; such a sum would be
+/// answered as want of memory.)
+pub fn count_chains(alloc: Global, uppers: &Lists) -> Result<u64, AllocError>
+    requires { All (All (λ cell. (1 ≤ cell) × (cell ≤ length uppers.now))) uppers.now }
+    ensures { IfOk result (λ total. total ≡ counted_chains uppers.now) }
+{
+    let ones = vec![in alloc; 1u64; uppers.len()]?;
+    let twos = counted(alloc, &ones, uppers)?;
+    let threes = counted(alloc, &twos, uppers)?;
+    let fours = counted(alloc, &threes, uppers)?;
+    let low = total_of(&ones)?.checked_add(total_of(&twos)?).ok_or(AllocError)?;
+    let middle = low.checked_add(total_of(&threes)?).ok_or(AllocError)?;
+    middle.checked_add(total_of(&fours)?).ok_or(AllocError)
 }

@@ -5,8 +5,8 @@ use Rattle.order_complex.specs.Chains.{faces_of}
 use Rattle.order_complex.proofs.FaceIds.{all_faces-parts}
 use Rattle.order_complex.proofs.faces.faces_in.Goals as goal
 
-pub returns : goal.returns
-returns c =
+pub returns-clause-faces : goal.returns-clause-faces
+returns-clause-faces c =
     let F : ℕ → List (List ℕ) = λ dim. map (faces_of c.args.space.now dim) (upto (count c.args.space.now dim)) in
     c.in_ok-push_faces-4.ensures
     ∙ ap (λ ls. ls ++ F 3)
