@@ -16,3 +16,4 @@ pub mod Graded
 pub mod Integers
 pub mod Cancel
 pub mod ChainBounds
+pub mod Held

@@ -27,6 +27,15 @@ abbrev pub facet_lists : List (List (List ℕ)) → (degree : ℕ) → List (Lis
 facet_lists space zero = map (λ chain. []) (chains_of space 0)
 facet_lists space (suc degree) = map (facet_numbers (chains_of space degree)) (chains_of space (suc degree))
 
+-- the same from four lists of chains
+abbrev pub facet_layers : List (List (List ℕ)) → List (List (List ℕ))
+facet_layers layers =
+    map (λ chain. []) (slice_index_or layers 0 [])
+    ∷ map (facet_numbers (slice_index_or layers 0 [])) (slice_index_or layers 1 [])
+    ∷ map (facet_numbers (slice_index_or layers 1 [])) (slice_index_or layers 2 [])
+    ∷ map (facet_numbers (slice_index_or layers 2 [])) (slice_index_or layers 3 [])
+    ∷ []
+
 abbrev pub complex_of : List (List (List ℕ)) → List (List (List ℕ))
 complex_of space = facet_lists space 0 ∷ facet_lists space 1 ∷ facet_lists space 2 ∷ facet_lists space 3 ∷ []
 

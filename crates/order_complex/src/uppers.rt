@@ -4,6 +4,7 @@ ghost use Rattle.order_complex.specs.Chains.{chain_count};
 ghost use Rattle.order_complex.specs.Complex.{chain_layers};
 
 use crate::faces::faces_in;
+use crate::layers::Layers;
 use crate::listing::{count_chains, extended, single_cells};
 use face_poset::{Lists, Space, cofaces_in};
 use std::alloc::{AllocError, Global};
@@ -45,13 +46,13 @@ impl<'a> Uppers<'a> {
     }
 
     /// The chains of each degree.
-    pub fn chains(&self, alloc: Global) -> Result<[Lists; 4], AllocError>
+    pub fn chains(&self, alloc: Global) -> Result<Layers, AllocError>
         ensures { IfOk result (λ chains. chains ≡ chain_layers self.now) }
     {
         let points = single_cells(alloc, self.lists.len())?;
         let edges = extended(alloc, &points, &self.lists)?;
         let triangles = extended(alloc, &edges, &self.lists)?;
         let tetrahedra = extended(alloc, &triangles, &self.lists)?;
-        Ok([points, edges, triangles, tetrahedra])
+        Ok(Layers::new(points, edges, triangles, tetrahedra))
     }
 }

@@ -70,7 +70,7 @@ four a b d e space other ha hb hd he s = rw (ha, hb, hd, he, s) refl
 
 pub returns : goal.returns
 returns c =
-    four c.in_ok-points.points c.in_ok-edges.edges c.in_ok-triangles.triangles c.in_ok-tetrahedra.tetrahedra c.self.inside.space.now c.args.self.now
+    c.new.ensures ∙ four c.in_ok-points.points c.in_ok-edges.edges c.in_ok-triangles.triangles c.in_ok-tetrahedra.tetrahedra c.self.inside.space.now c.args.self.now
     (points-are c.self.inside.space.now c.self.inside.lists c.in_ok-points.points c.len.result c.self.invariant.0 c.len.ensures c.in_ok-points.ensures)
     (next-are c.self.inside.space.now c.self.inside.lists c.in_ok-points.points c.in_ok-edges.edges 0 c.self.invariant.0
     (points-are c.self.inside.space.now c.self.inside.lists c.in_ok-points.points c.len.result c.self.invariant.0 c.len.ensures c.in_ok-points.ensures) c.in_ok-edges.ensures)
