@@ -250,3 +250,25 @@ module _ (space : List (List (List ℕ))) where
   signs_cancel (suc (suc (suc zero))) cell target two first last =
       sum_to-total (complex_of space) (negative_in space) 3 cell target (facets_of (complex_of space) 3 cell) ∙ cancels 1 cell target first (omega (arith, length-facet_lists 2))
   signs_cancel (suc (suc (suc (suc dim)))) cell target two first last = absurd (omega arith)
+
+-- ---- signs from the end of the list of facets
+
+reverse-reverse : (xs : List ℕ) → reverse (reverse xs) ≡ xs
+reverse-reverse [] = refl
+reverse-reverse (x ∷ xs) = ap reverse (reverse-cons x xs) ∙ reverse-append (reverse xs) (x ∷ []) ∙ ap (λ ys. x ∷ ys) (reverse-reverse xs)
+
+module _ (space : List (List (List ℕ))) where
+  odd-facet : (degree cell facet : ℕ) → 1 ≤ cell → cell ≤ length (chains_of space (suc degree))
+      → stands_odd (reverse (get_or (facet_lists space (suc degree)) (cell - 1) [])) facet ≡ negative_in space (suc degree) cell facet
+  odd-facet degree cell facet first last =
+      let chain : List ℕ = get_or (chains_of space (suc degree)) (cell - 1) [] in
+      ap (λ fs. stands_odd (reverse fs) facet) (facets-at space degree (cell - 1) (omega arith))
+      ∙ ap (λ ns. stands_odd ns facet) (reverse-reverse (map (number_or_zero (chains_of space degree)) (leave_out chain)))
+
+  pub odd-at : (dim cell facet : ℕ) → 1 ≤ cell → cell ≤ count (complex_of space) dim → stands_odd (reverse (facets_of (complex_of space) dim cell)) facet ≡ negative_in space dim cell facet
+  odd-at zero cell facet first last =
+      ap (λ fs. stands_odd (reverse fs) facet) (get_or-map {Y = List ℕ} (λ chain. []) (chains_of space 0) (cell - 1) [] [] (omega (arith, length-map {B = List ℕ} (chains_of space 0) (λ chain. []))))
+  odd-at (suc zero) cell facet first last = odd-facet 0 cell facet first (omega (arith, length-facet_lists space 0))
+  odd-at (suc (suc zero)) cell facet first last = odd-facet 1 cell facet first (omega (arith, length-facet_lists space 1))
+  odd-at (suc (suc (suc zero))) cell facet first last = odd-facet 2 cell facet first (omega (arith, length-facet_lists space 2))
+  odd-at (suc (suc (suc (suc dim)))) cell facet first last = absurd (omega arith)

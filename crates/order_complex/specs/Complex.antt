@@ -1,5 +1,5 @@
 -- The order complex as a graded set with signs: the facets of a chain are the chains with one entry left out.
-use Rattle.std.specs.Prelude.{◌≡◌, ⊤, ℕ, zero, suc, ◌-◌, ◌≤◌, ◌<◌, ◌==◌, ◌&&◌, nat_le, List, [], ◌∷◌, Bool, false, not, cond, if◌then◌else◌, map, reverse, length, slice_index_or, option_map, unwrap_or}
+use Rattle.std.specs.Prelude.{◌≡◌, ⊤, ℕ, zero, suc, ◌-◌, ◌≤◌, ◌<◌, ◌==◌, ◌&&◌, nat_le, List, [], ◌∷◌, Bool, false, not, cond, if◌then◌else◌, map, reverse, length, slice_index, slice_index_or, option_map, unwrap_or}
 use Rattle.std.specs.declared.option.Option.{Option}
 use Rattle.std.specs.declared.option.Option.TheVariants.{Some, None}
 use Rattle.std.specs.Str.{bytes_eq}
@@ -61,6 +61,10 @@ IsRefused count limit Memory = ⊤
 -- the number of a chain of one to four cells, counted from 1 in its degree
 abbrev pub position_of : List (List (List ℕ)) → List ℕ → Option ℕ
 position_of space ids = if nat_le 1 (length ids) && nat_le (length ids) 4 then number_in (chains_of space (length ids - 1)) ids else None
+
+-- the last entry
+abbrev pub last_of : List ℕ → ℕ
+last_of chain = slice_index chain (length chain - 1)
 
 -- the cell with an id
 pub record HasId (space : List (List (List ℕ))) (cell : Cell) (id : ℕ) : Type 0 where

@@ -1,16 +1,18 @@
 // All chains of the order complex of a space.
-ghost use Rattle.std.specs.Prelude.{◌≡◌, ◌≤◌, ◌-◌, [], All, length, slice_index_or, IfOk, IfErr, OnOk};
+ghost use Rattle.std.specs.Prelude.{◌≡◌, ◌≤◌, ◌-◌, [], All, length, reverse, slice_index_or, IfOk, IfErr, OnOk};
 ghost use Rattle.face_poset.specs.Poset.{IsSpace};
 ghost use Rattle.face_poset.specs.Cofaces.{coface_layers};
 ghost use Rattle.order_complex.specs.Order.{IsOrdered};
 ghost use Rattle.order_complex.specs.Chains.{chains_of, chain_count};
-ghost use Rattle.order_complex.specs.Complex.{complex_of, facet_layers, negative_in, position_of, IsRefused};
+ghost use Rattle.order_complex.specs.Complex.{complex_of, facet_layers, last_of, negative_in, position_of, stands_odd, HasId, IsRefused};
 
 use crate::facets::{facets_in, without_facets};
+use crate::faces::cell_of_id;
 use crate::fault::ChainFault;
 use crate::layers::Layers;
+use crate::searching::find_chain;
 use crate::uppers::Uppers;
-use face_poset::{Graded, Lists, Space, cofaces_in};
+use face_poset::{Cell, Graded, Lists, Signed, Space, cofaces_in};
 use std::alloc::{AllocError, Global};
 use std::marker::Model;
 
@@ -131,6 +133,31 @@ impl<'a> Chains<'a> {
     {
         self.chains.layer(degree).get(number as usize - 1)
     }
+
+    /// The number of the chain with these ids, counted from 1 in its degree, or none where they are no chain.
+    pub fn position(&self, ids: &[u32]) -> Option<u32>
+        ensures { result ≡ position_of self.now ids.now }
+    {
+        if ids.is_empty() || ids.len() > 4 {
+            return None;
+        }
+        let degree = ids.len() as u8 - 1;
+        match find_chain(self.chains.layer(degree), ids) {
+            Some(place) => Some(place as u32 + 1),
+            None => None,
+        }
+    }
+
+    /// The last cell of a chain, which is numbered from 1 in its degree.
+    pub fn top(&self, degree: u8, number: u32) -> Cell
+        requires degree { degree ≤ 3 }
+        requires first { 1 ≤ number }
+        requires last { number ≤ length (chains_of self.now degree) }
+        ensures { HasId self.now result (last_of (slice_index_or (chains_of self.now degree) (number - 1) [])) }
+    {
+        let chain = self.chain(degree, number);
+        cell_of_id(self.space, chain[chain.len() - 1])
+    }
 }
 
 impl<'a> Graded for Chains<'a> {
@@ -150,5 +177,27 @@ impl<'a> Graded for Chains<'a> {
 
     fn cofaces(&self, dim: u8, cell: u32) -> &[u32] {
         self.cofaces.layer(dim).get(cell as usize - 1)
+    }
+}
+
+impl<'a> Signed for Chains<'a> {
+    ghost negative = { λ s dim cell facet. negative_in s dim cell facet };
+
+    fn sign(&self, dim: u8, cell: u32, facet: u32) -> i8 {
+        if stands_odd_from_end(self.facets(dim, cell), facet) {
+            -1
+        } else {
+            1
+        }
+    }
+}
+
+/// Whether the place of the facet is odd, counted from 0 at the end of the list.
+fn stands_odd_from_end(facets: &[u32], facet: u32) -> bool
+    ensures { result ≡ stands_odd (reverse facets.now) facet }
+{
+    match facets {
+        [] => false,
+        [rest @ .., last] => *last != facet && !stands_odd_from_end(rest, facet),
     }
 }

@@ -3,6 +3,7 @@ ghost use Rattle.std.specs.Prelude.{◌≡◌, ◌≤◌, ◌+◌, IfOk, OnOk, m
 ghost use Rattle.face_poset.specs.Words.{upto};
 ghost use Rattle.face_poset.specs.Poset.{count, cell_count};
 ghost use Rattle.order_complex.specs.Chains.{cells_before, id_of, faces_of, all_faces};
+ghost use Rattle.order_complex.specs.Complex.{HasId};
 
 use face_poset::{Cell, Graded, Lists, Space};
 use std::alloc::{AllocError, Global};
@@ -71,4 +72,28 @@ fn push_faces(alloc: Global, space: &Space, dim: u8, faces: &mut Lists) -> Resul
         faces.push(&ids)?;
     }
     Ok(())
+}
+
+/// The cell with an id.
+pub fn cell_of_id(space: &Space, id: u32) -> Cell
+    requires first { 1 ≤ id }
+    requires last { id ≤ cell_count space.now }
+    ensures { HasId space.now result id }
+{
+    let edges = cells_below(space, 1);
+    let faces = cells_below(space, 2);
+    let solids = cells_below(space, 3);
+    let (dim, before) = if id <= edges {
+        (0, 0)
+    } else if id <= faces {
+        (1, edges)
+    } else if id <= solids {
+        (2, faces)
+    } else {
+        (3, solids)
+    };
+    Cell {
+        dim,
+        number: id - before,
+    }
 }
