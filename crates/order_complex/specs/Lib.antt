@@ -5,3 +5,4 @@ pub mod Cup
 pub mod Order
 pub mod Complex
 pub mod Listing
+pub mod Values

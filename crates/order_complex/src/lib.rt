@@ -2,6 +2,7 @@
 #![tactic(auto)]
 
 mod chains;
+mod cochain;
 mod faces;
 mod facets;
 mod fault;
@@ -11,4 +12,5 @@ mod searching;
 mod uppers;
 
 pub use chains::Chains;
+pub use cochain::Cochain;
 pub use fault::ChainFault;
