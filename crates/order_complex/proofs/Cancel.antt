@@ -28,7 +28,7 @@ unfolding total
 total-append [] ys = sym (+ℤ_idl (total ys))
 total-append (x ∷ xs) ys = ap (λ n. x +ℤ n) (total-append xs ys) ∙ sym (+ℤ_assoc x (total xs) (total ys))
 
-reverse-cons : {A : Type 0} (x : A) (xs : List A) → reverse (x ∷ xs) ≡ reverse xs ++ x ∷ []
+pub reverse-cons : {A : Type 0} (x : A) (xs : List A) → reverse (x ∷ xs) ≡ reverse xs ++ x ∷ []
 reverse-cons x xs = reverse-append (x ∷ []) xs
 
 map-append : (f : ℕ → ℤ) (xs ys : List ℕ) → map f (xs ++ ys) ≡ map f xs ++ map f ys
@@ -253,7 +253,7 @@ module _ (space : List (List (List ℕ))) where
 
 -- ---- signs from the end of the list of facets
 
-reverse-reverse : (xs : List ℕ) → reverse (reverse xs) ≡ xs
+pub reverse-reverse : (xs : List ℕ) → reverse (reverse xs) ≡ xs
 reverse-reverse [] = refl
 reverse-reverse (x ∷ xs) = ap reverse (reverse-cons x xs) ∙ reverse-append (reverse xs) (x ∷ []) ∙ ap (λ ys. x ∷ ys) (reverse-reverse xs)
 
@@ -272,3 +272,17 @@ module _ (space : List (List (List ℕ))) where
   odd-at (suc (suc zero)) cell facet first last = odd-facet 1 cell facet first (omega (arith, length-facet_lists space 1))
   odd-at (suc (suc (suc zero))) cell facet first last = odd-facet 2 cell facet first (omega (arith, length-facet_lists space 2))
   odd-at (suc (suc (suc (suc dim)))) cell facet first last = absurd (omega arith)
+
+  -- the facets of a chain, by its number
+  pub complex-facets : (degree cell : ℕ) → degree ≤ 2 → 1 ≤ cell → cell ≤ length (chains_of space (suc degree))
+      → facets_of (complex_of space) (suc degree) cell ≡ facet_numbers (chains_of space degree) (get_or (chains_of space (suc degree)) (cell - 1) [])
+  complex-facets zero cell small first last = facets-at space 0 (cell - 1) (omega arith)
+  complex-facets (suc zero) cell small first last = facets-at space 1 (cell - 1) (omega arith)
+  complex-facets (suc (suc zero)) cell small first last = facets-at space 2 (cell - 1) (omega arith)
+  complex-facets (suc (suc (suc degree))) cell small first last = absurd (omega arith)
+
+  pub complex-count : (degree : ℕ) → degree ≤ 2 → count (complex_of space) (degree + 1) ≡ length (chains_of space (degree + 1))
+  complex-count zero small = length-facet_lists space 0
+  complex-count (suc zero) small = length-facet_lists space 1
+  complex-count (suc (suc zero)) small = length-facet_lists space 2
+  complex-count (suc (suc (suc degree))) small = absurd (omega arith)

@@ -143,7 +143,7 @@ module _ (space : List (List (List ℕ))) where
       let falls : FallingSequences (leave_out chain) = subst (λ x. FallingSequences (leave_out x)) (sym c.is) (leave_out-falls space c.first c.rest c.follows) in
       falls-numbers (chains_of space degree) (leave_out chain) (ordered-chains_of space degree) (leave_out-member space degree chain h) falls
 
-  facets-are : (degree : ℕ) (chain : List ℕ) → Member chain (chains_of space (suc degree)) → IsCell (length (chains_of space degree)) (facet_numbers (chains_of space degree) chain)
+  pub facets-are : (degree : ℕ) (chain : List ℕ) → Member chain (chains_of space (suc degree)) → IsCell (length (chains_of space degree)) (facet_numbers (chains_of space degree) chain)
   facets-are degree chain h =
       let below : List (List ℕ) = chains_of space degree in
       let ns : List ℕ = map (number_or_zero below) (leave_out chain) in

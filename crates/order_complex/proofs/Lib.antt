@@ -17,3 +17,4 @@ pub mod Integers
 pub mod Cancel
 pub mod ChainBounds
 pub mod Held
+pub mod ValueLemmas

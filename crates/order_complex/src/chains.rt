@@ -1,5 +1,5 @@
 // All chains of the order complex of a space.
-ghost use Rattle.std.specs.Prelude.{◌≡◌, ◌≤◌, ◌-◌, [], All, length, reverse, slice_index_or, IfOk, IfErr, OnOk};
+ghost use Rattle.std.specs.Prelude.{◌≡◌, ◌≤◌, ◌+◌, ◌-◌, [], All, length, reverse, slice_index_or, IfOk, IfErr, OnOk};
 ghost use Rattle.face_poset.specs.Poset.{IsSpace};
 ghost use Rattle.face_poset.specs.Cofaces.{coface_layers};
 ghost use Rattle.order_complex.specs.Order.{IsOrdered};
@@ -129,7 +129,8 @@ impl<'a> Chains<'a> {
         requires degree { degree ≤ 3 }
         requires first { 1 ≤ number }
         requires last { number ≤ length (chains_of self.now degree) }
-        ensures { result.now ≡ slice_index_or (chains_of self.now degree) (number - 1) [] }
+        ensures chain { result.now ≡ slice_index_or (chains_of self.now degree) (number - 1) [] }
+        ensures long { length result.now ≡ degree + 1 }
     {
         self.chains.layer(degree).get(number as usize - 1)
     }

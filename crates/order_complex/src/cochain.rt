@@ -1,7 +1,7 @@
 // Cochains, and chains with coefficients.
-ghost use Rattle.std.specs.Prelude.{◌≡◌, ◌≤◌, ◌-◌, ◌<◌, ◌^◌, length, replicate, slice_index, slice_set, IfOk};
+ghost use Rattle.std.specs.Prelude.{◌≡◌, ◌≤◌, ◌-◌, ◌<◌, ◌^◌, ◌++◌, All, length, replicate, slice_index, slice_set, IfOk, OnOk};
 ghost use Rattle.linear_algebra.specs.Vectors.{AreElements};
-ghost use Rattle.order_complex.specs.Values.{entries_from};
+ghost use Rattle.order_complex.specs.Values.{entries_from, entry_of};
 
 use small_field::{Entry, Field, Sparse};
 use std::alloc::{AllocError, Global};
@@ -62,4 +62,26 @@ impl<F: Field> Cochain<F> {
     {
         self.numbers[number as usize - 1] = value.to_number() as u8;
     }
+
+    /// The values that are not 0, each at the number of its cell.
+    pub fn sparse(&self, alloc: Global) -> Result<Sparse, AllocError>
+        ensures { IfOk result (λ entries. entries ≡ entries_from 1 self.now) }
+    {
+        let mut entries = Sparse::new(alloc);
+        for index in 0..self.numbers.len() {
+            push_value(&mut entries, index as u32 + 1, self.numbers[index])?;
+        }
+        Ok(entries)
+    }
+}
+
+/// Puts the value last in the entries, unless it is 0.
+fn push_value(entries: &mut Sparse, position: u32, value: u8) -> Result<(), AllocError>
+    requires { All (λ e. e.0 < position) entries.old }
+    ensures { OnOk result (entries.new ≡ entries.old ++ entry_of position value) }
+{
+    if value != 0 {
+        entries.push(Entry { position, value })?;
+    }
+    Ok(())
 }

@@ -10,6 +10,7 @@ mod layers;
 mod listing;
 mod searching;
 mod uppers;
+mod values;
 
 pub use chains::Chains;
 pub use cochain::Cochain;

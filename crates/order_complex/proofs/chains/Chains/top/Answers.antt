@@ -22,16 +22,16 @@ ends space degree number chain low high e =
     }
 
 pub overflow_sub-chain : goal.overflow_sub-chain
-overflow_sub-chain c = (ends c.args.self.now c.args.degree c.args.number c.chain-chain.result.now c.requires.first c.requires.last c.chain-chain.ensures).some
+overflow_sub-chain c = (ends c.args.self.now c.args.degree c.args.number c.chain-chain.result.now c.requires.first c.requires.last c.chain-chain.ensures.chain).some
 
 pub bounds-chain-chain : goal.bounds-chain-chain
 bounds-chain-chain c =
-    let e = ends c.args.self.now c.args.degree c.args.number c.chain-chain.result.now c.requires.first c.requires.last c.chain-chain.ensures in omega (arith, e.some)
+    let e = ends c.args.self.now c.args.degree c.args.number c.chain-chain.result.now c.requires.first c.requires.last c.chain-chain.ensures.chain in omega (arith, e.some)
 
 pub cell_of_id-requires-clause-first : goal.cell_of_id-requires-clause-first
-cell_of_id-requires-clause-first c = (ends c.args.self.now c.args.degree c.args.number c.chain-chain.result.now c.requires.first c.requires.last c.chain-chain.ensures).first
+cell_of_id-requires-clause-first c = (ends c.args.self.now c.args.degree c.args.number c.chain-chain.result.now c.requires.first c.requires.last c.chain-chain.ensures.chain).first
 
 pub cell_of_id-requires-clause-last : goal.cell_of_id-requires-clause-last
 cell_of_id-requires-clause-last c =
-    let e = ends c.args.self.now c.args.degree c.args.number c.chain-chain.result.now c.requires.first c.requires.last c.chain-chain.ensures in
+    let e = ends c.args.self.now c.args.degree c.args.number c.chain-chain.result.now c.requires.first c.requires.last c.chain-chain.ensures.chain in
     subst (λ (s : List (List (List ℕ))). get_or c.chain-chain.result.now (length c.chain-chain.result.now - 1) 0 ≤ cell_count s) (sym c.self.view_is) e.last
