@@ -1,5 +1,5 @@
 -- Lemmas on a cell with all its faces.
-use Rattle.std.proofs.Common.{◌≡◌, ◌≢◌, ◌<◌, ◌≤◌, ◌+◌, ◌-◌, ◌++◌, ◌∷◌, [], ℕ, zero, suc, Bool, true, false, cond, ◌&&◌, ◌||◌, List, length, get_or, map, filter, refl, sym, ◌∙◌, ap, arith, subst, All, Any, Contains, eqb, ◌*◌, mul-le-mul_right}
+use Rattle.std.proofs.Common.{◌≡◌, ◌≢◌, ◌≤◌, ◌+◌, ◌-◌, ◌++◌, ◌∷◌, [], ℕ, zero, suc, Bool, true, false, cond, ◌||◌, List, length, get_or, map, filter, refl, ◌∙◌, ap, arith, subst, All, Any, Contains, eqb, ◌*◌, mul-le-mul_right}
 use Rattle.std.specs.List.{flat_map, list_any}
 use Rattle.std.specs.List.Sorted.{IsStrictlyIncreasing}
 use Rattle.std.proofs.lemmas.List.{length-append, length-map, get_or_past}
@@ -9,7 +9,7 @@ use Rattle.face_poset.specs.declared.cells.Cell.{Cell}
 use Rattle.face_poset.specs.Words.{upto, holds}
 use Rattle.face_poset.specs.Poset.{layer, count, cell_count, facets_of, IsCell, IsSpace}
 use Rattle.face_poset.specs.Below.{cell_at, facets_of_all, closure}
-use Rattle.face_poset.proofs.Members.{members_sorted, holds-from, Contains-from_holds, same_holds, All-upto, length-upto}
+use Rattle.face_poset.proofs.Members.{members_sorted, Contains-from_holds, same_holds, All-upto, length-upto}
 
 pub closure-step : (space : List (List (List ℕ))) (dim : ℕ) (cells : List ℕ) → dim ≢ 0 → closure space dim cells ≡ closure space (dim - 1) (facets_of_all space (dim - 1) cells) ++ map (cell_at dim) cells
 closure-step space zero cells ne = absurd (ne refl)
@@ -18,12 +18,12 @@ closure-step space (suc dim) cells ne =
     ap (λ (d : ℕ). closure space d (facets_of_all space d cells) ++ map (cell_at (suc dim)) cells) e
 
 -- the facets of these cells are those of some cell
-holds-flat_map : (F : ℕ → List ℕ) (cells : List ℕ) (n : ℕ) → holds (flat_map F cells) n ≡ list_any (λ c. holds (F c) n) cells
+pub holds-flat_map : (F : ℕ → List ℕ) (cells : List ℕ) (n : ℕ) → holds (flat_map F cells) n ≡ list_any (λ c. holds (F c) n) cells
 holds-flat_map F [] n = refl
 holds-flat_map F (c ∷ cells) n = list_any-append (λ y. eqb y n) (F c) (flat_map F cells) ∙ ap (λ (b : Bool). holds (F c) n || b) (holds-flat_map F cells n)
 
 -- a list with some element that passes
-any_at : {X : Type 0} (p : X → Bool) (xs : List X) → list_any p xs ≡ true → (x : X) × Contains xs x × (p x ≡ true)
+pub any_at : {X : Type 0} (p : X → Bool) (xs : List X) → list_any p xs ≡ true → (x : X) × Contains xs x × (p x ≡ true)
 any_at p xs h = let a : Any (λ x. p x ≡ true) xs = Any-from_list_any p xs h in (a.1, (a.0, a.2, a.3), a.4)
 
 -- facets are cells of one dimension less
@@ -42,14 +42,14 @@ sorted_facets space dim cells all xs h valid e rises keeps adds =
     members_sorted xs p (count space dim) rises
     (λ n. same_holds xs all n (adds n) (keeps n) ∙ (ap (λ (ys : List ℕ). holds ys n) e ∙ holds-flat_map (λ c. facets_of space (dim + 1) c) cells n))
     (λ n yes.
-        let a : (c : ℕ) × Contains cells c × (holds (facets_of space (dim + 1) c) n ≡ true) = any_at (λ c. holds (facets_of space (dim + 1) c) n) cells yes in
-        let at : Contains cells a.0 = a.1 in
-        let w : (1 ≤ get_or cells at.0 a.0) × (get_or cells at.0 a.0 ≤ count space (dim + 1)) = valid at.0 a.0 at.1 in
-        let v : (1 ≤ a.0) × (a.0 ≤ count space (dim + 1)) = subst (λ (m : ℕ). (1 ≤ m) × (m ≤ count space (dim + 1))) at.2 w in
-        let r : (1 ≤ n) × (n ≤ count space (dim + 1 - 1)) = facet_within space (dim + 1) a.0 n h (omega arith) v.0 v.1 (Contains-from_holds (facets_of space (dim + 1) a.0) n a.2) in
-        subst (λ (m : ℕ). (1 ≤ n) × (n ≤ count space m)) (let q : dim + 1 - 1 ≡ dim = omega arith in q) r)
+    let a : (c : ℕ) × Contains cells c × (holds (facets_of space (dim + 1) c) n ≡ true) = any_at (λ c. holds (facets_of space (dim + 1) c) n) cells yes in
+    let at : Contains cells a.0 = a.1 in
+    let w : (1 ≤ get_or cells at.0 a.0) × (get_or cells at.0 a.0 ≤ count space (dim + 1)) = valid at.0 a.0 at.1 in
+    let v : (1 ≤ a.0) × (a.0 ≤ count space (dim + 1)) = subst (λ (m : ℕ). (1 ≤ m) × (m ≤ count space (dim + 1))) at.2 w in
+    let r : (1 ≤ n) × (n ≤ count space (dim + 1 - 1)) = facet_within space (dim + 1) a.0 n h (omega arith) v.0 v.1 (Contains-from_holds (facets_of space (dim + 1) a.0) n a.2) in
+    subst (λ (m : ℕ). (1 ≤ n) × (n ≤ count space m)) (let q : dim + 1 - 1 ≡ dim = omega arith in q) r)
 
-length-filter-le : {X : Type 0} (p : X → Bool) (xs : List X) → length (filter p xs) ≤ length xs
+pub length-filter-le : {X : Type 0} (p : X → Bool) (xs : List X) → length (filter p xs) ≤ length xs
 length-filter-le p [] = omega arith
 length-filter-le p (x ∷ xs) =
     let rest : length (filter p xs) ≤ length xs = length-filter-le p xs in
@@ -61,7 +61,7 @@ facets_within space dim cells = All-filter (λ f. list_any (λ c. holds (facets_
 pub facets_few : (space : List (List (List ℕ))) (dim : ℕ) (cells : List ℕ) → length (facets_of_all space dim cells) ≤ count space dim
 facets_few space dim cells = omega (arith, length-filter-le (λ f. list_any (λ c. holds (facets_of space (dim + 1) c) f) cells) (upto (count space dim)), length-upto (count space dim))
 
-count-few : (space : List (List (List ℕ))) → length space ≡ 4 → cell_count space ≤ 60000 → (d : ℕ) → count space d ≤ 60000
+pub count-few : (space : List (List (List ℕ))) → length space ≡ 4 → cell_count space ≤ 60000 → (d : ℕ) → count space d ≤ 60000
 count-few space four few zero = omega arith
 count-few space four few (suc zero) = omega arith
 count-few space four few (suc (suc zero)) = omega arith

@@ -1,14 +1,14 @@
 -- Lemmas on increasing lists of numbers, their members and counts.
-use Rattle.std.proofs.Common.{◌≡◌, ◌≢◌, ◌⊎◌, inl, inr, ℕ, zero, suc, ◌+◌, ◌-◌, ◌<◌, ◌≤◌, List, [], ◌∷◌, ◌++◌, length, take, drop, get_or, map, Bool, true, false, cond, ◌||◌, ◌&&◌, eqb, refl, ap, sym, ◌∙◌, subst, arith, filter, All, Any, Contains, count_by, set, zero-add}
-use Rattle.std.specs.List.{list_any, range_with_len}
+use Rattle.std.proofs.Common.{◌≡◌, ◌≢◌, ◌⊎◌, inl, inr, ℕ, suc, ◌+◌, ◌-◌, ◌<◌, ◌≤◌, List, [], ◌∷◌, ◌++◌, length, take, get_or, map, Bool, true, false, cond, ◌||◌, ◌&&◌, eqb, refl, ap, sym, ◌∙◌, subst, arith, filter, All, Any, Contains, count_by, set, zero-add}
+use Rattle.std.specs.List.{range_with_len}
 use Rattle.std.specs.List.Sorted.{IsStrictlyIncreasing}
 use Rattle.std.proofs.lemmas.Bool.{eqb-true, eq-eqb, false≢true}
 use Rattle.std.proofs.lemmas.Bool.Decides.{eqb_tells}
 use Rattle.std.proofs.lemmas.List.{map-id, get_or_default, get_or-take, length-take-le, same_lists, length-set, get_or-set_same, get_or-set_other}
 use Rattle.std.proofs.lemmas.List.FromFn.{map-range_with_len_more, length-map-range_with_len, get_or-map-range_with_len, length-range_with_len, get_or-range_with_len}
-use Rattle.std.proofs.lemmas.List.Sums.{sum_by-cons, sum_by-append}
+use Rattle.std.proofs.lemmas.List.Sums.{sum_by-cons}
 use Rattle.std.proofs.lemmas.List.Folds.{Any-from_list_any, list_any_at, list_any_none, list_any_more}
-use Rattle.std.proofs.lemmas.List.Elements.{filter-append, All-head, All-tail, All-cons, All-nil}
+use Rattle.std.proofs.lemmas.List.Elements.{All-head, All-tail}
 use Rattle.std.proofs.lemmas.List.Kept.{AllPairs-from_increasing, IsStrictlyIncreasing-filter}
 use Rattle.face_poset.specs.Words.{upto, holds}
 
@@ -61,10 +61,10 @@ holds_more xs i x l = list_any_more (λ y. eqb y x) xs i 0 l
 pub holds-before : (xs : List ℕ) (i : ℕ) → IsStrictlyIncreasing xs → i < length xs → holds (take i xs) (get_or xs i 0) ≡ false
 holds-before xs i h l =
     holds-none (take i xs) (get_or xs i 0) (λ k d lt.
-        let short : length (take i xs) ≡ i = length-take-le i xs (omega arith) in
-        let less : get_or xs k 0 < get_or xs i 0 = AllPairs-from_increasing xs h k i 0 (omega arith) l in
-        let same : get_or (take i xs) k d ≡ get_or xs k 0 = get_or-take i xs k d (omega arith) ∙ get_or_default xs k d 0 (omega arith) in
-        λ e. let q : get_or xs k 0 ≡ get_or xs i 0 = sym same ∙ e in omega arith)
+    let short : length (take i xs) ≡ i = length-take-le i xs (omega arith) in
+    let less : get_or xs k 0 < get_or xs i 0 = AllPairs-from_increasing xs h k i 0 (omega arith) l in
+    let same : get_or (take i xs) k d ≡ get_or xs k 0 = get_or-take i xs k d (omega arith) ∙ get_or_default xs k d 0 (omega arith) in
+    λ e. let q : get_or xs k 0 ≡ get_or xs i 0 = sym same ∙ e in omega arith)
 
 pub increasing_tail : (x : ℕ) (xs : List ℕ) → IsStrictlyIncreasing (x ∷ xs) → IsStrictlyIncreasing xs
 increasing_tail x xs h k l =
@@ -84,10 +84,10 @@ count-increasing (x ∷ xs) y h =
     let both : count_by (λ z. eqb z y) (x ∷ xs) ≡ cond (eqb x y) 1 0 + cond (holds xs y) 1 0 = sum_by-cons (λ z. cond (eqb z y) 1 0) x xs ∙ ap (λ (n : ℕ). cond (eqb x y) 1 0 + n) rest in
     elim (eqb_tells x y) [
       | inl p ↦
-        let none : holds xs y ≡ false = holds-none xs y (λ k d l e. omega (arith, increasing_head x xs h k d l, p.1)) in
-        both ∙ (ap (λ (b : Bool). cond b 1 0 + cond (holds xs y) 1 0) p.0 ∙ (ap (λ (b : Bool). 1 + cond b 1 0) none ∙ sym (ap (λ (b : Bool). cond (b || holds xs y) 1 0) p.0)))
+          let none : holds xs y ≡ false = holds-none xs y (λ k d l e. omega (arith, increasing_head x xs h k d l, p.1)) in
+          both ∙ (ap (λ (b : Bool). cond b 1 0 + cond (holds xs y) 1 0) p.0 ∙ (ap (λ (b : Bool). 1 + cond b 1 0) none ∙ sym (ap (λ (b : Bool). cond (b || holds xs y) 1 0) p.0)))
       | inr p ↦
-        both ∙ (ap (λ (b : Bool). cond b 1 0 + cond (holds xs y) 1 0) p.0 ∙ (zero-add (cond (holds xs y) 1 0) ∙ sym (ap (λ (b : Bool). cond (b || holds xs y) 1 0) p.0)))
+          both ∙ (ap (λ (b : Bool). cond b 1 0 + cond (holds xs y) 1 0) p.0 ∙ (zero-add (cond (holds xs y) 1 0) ∙ sym (ap (λ (b : Bool). cond (b || holds xs y) 1 0) p.0)))
     ]
 
 -- a list over the numbers 1 to n with one element changed
@@ -95,18 +95,18 @@ pub set-map-upto : {X : Type 0} (F G : ℕ → X) (n g : ℕ) (y : X) → 1 ≤ 
 set-map-upto F G n g y low high here others =
     same_lists (set (map F (upto n)) (g - 1) y) (map G (upto n)) (length-set (map F (upto n)) (g - 1) y ∙ (length-map-range_with_len F 1 n ∙ sym (length-map-range_with_len G 1 n)))
     (λ k d l.
-        let lt : k < n = omega (arith, length-set (map F (upto n)) (g - 1) y, length-map-range_with_len F 1 n) in
-        let to : get_or (map G (upto n)) k d ≡ G (k + 1) = get_or-map-range_with_len G 1 n k (k + 1) d lt (omega arith) in
-        let from : get_or (map F (upto n)) k d ≡ F (k + 1) = get_or-map-range_with_len F 1 n k (k + 1) d lt (omega arith) in
-        elim (eqb_tells k (g - 1)) [
-          | inl p ↦
-            let e : k + 1 ≡ g = let q : k ≡ g - 1 = p.1 in omega arith in
-            ap (λ (j : ℕ). get_or (set (map F (upto n)) (g - 1) y) j d) p.1
-            ∙ (get_or-set_same (map F (upto n)) (g - 1) y d (omega (arith, length-map-range_with_len F 1 n)) ∙ (sym here ∙ (ap G (sym e) ∙ sym to)))
-          | inr p ↦
-            get_or-set_other (map F (upto n)) (g - 1) k y d p.1
-            ∙ (from ∙ (others (k + 1) (λ e. p.1 (omega arith)) ∙ sym to))
-        ])
+    let lt : k < n = omega (arith, length-set (map F (upto n)) (g - 1) y, length-map-range_with_len F 1 n) in
+    let to : get_or (map G (upto n)) k d ≡ G (k + 1) = get_or-map-range_with_len G 1 n k (k + 1) d lt (omega arith) in
+    let from : get_or (map F (upto n)) k d ≡ F (k + 1) = get_or-map-range_with_len F 1 n k (k + 1) d lt (omega arith) in
+    elim (eqb_tells k (g - 1)) [
+      | inl p ↦
+          let e : k + 1 ≡ g = let q : k ≡ g - 1 = p.1 in omega arith in
+          ap (λ (j : ℕ). get_or (set (map F (upto n)) (g - 1) y) j d) p.1
+          ∙ (get_or-set_same (map F (upto n)) (g - 1) y d (omega (arith, length-map-range_with_len F 1 n)) ∙ (sym here ∙ (ap G (sym e) ∙ sym to)))
+      | inr p ↦
+          get_or-set_other (map F (upto n)) (g - 1) k y d p.1
+          ∙ (from ∙ (others (k + 1) (λ e. p.1 (omega arith)) ∙ sym to))
+    ])
 
 -- sorted lists by their members
 
@@ -125,11 +125,11 @@ above_head x n xs h has =
     elim (eqb_tells x n) [
       | inl p ↦ inl (sym p.1)
       | inr p ↦
-        let rest : holds xs n ≡ true = sym (ap (λ (b : Bool). b || holds xs n) p.0) ∙ has in
-        let at : Contains xs n = Contains-from_holds xs n rest in
-        let less : x < get_or xs at.0 n = increasing_head x xs h at.0 n at.1 in
-        let here : get_or xs at.0 n ≡ n = at.2 in
-        inr (omega arith)
+          let rest : holds xs n ≡ true = sym (ap (λ (b : Bool). b || holds xs n) p.0) ∙ has in
+          let at : Contains xs n = Contains-from_holds xs n rest in
+          let less : x < get_or xs at.0 n = increasing_head x xs h at.0 n at.1 in
+          let here : get_or xs at.0 n ≡ n = at.2 in
+          inr (omega arith)
     ]
 
 -- a list from a number on has no smaller one
@@ -173,15 +173,15 @@ filter_step : (p : ℕ → Bool) (x : ℕ) (xs : List ℕ) (n : ℕ) → holds (
 filter_step p x xs n rest true e =
     elim (eqb_tells x n) [
       | inl q ↦
-        let yes : p n ≡ true = ap p (sym q.1) ∙ e in
-        ap (λ (c : Bool). c || holds (filter p xs) n) q.0 ∙ sym (ap (λ (c : Bool). c && (eqb x n || holds xs n)) yes ∙ ap (λ (c : Bool). c || holds xs n) q.0)
+          let yes : p n ≡ true = ap p (sym q.1) ∙ e in
+          ap (λ (c : Bool). c || holds (filter p xs) n) q.0 ∙ sym (ap (λ (c : Bool). c && (eqb x n || holds xs n)) yes ∙ ap (λ (c : Bool). c || holds xs n) q.0)
       | inr q ↦ ap (λ (c : Bool). c || holds (filter p xs) n) q.0 ∙ (rest ∙ ap (λ (c : Bool). p n && (c || holds xs n)) (sym q.0))
     ]
 filter_step p x xs n rest false e =
     elim (eqb_tells x n) [
       | inl q ↦
-        let no : p n ≡ false = ap p (sym q.1) ∙ e in
-        rest ∙ (ap (λ (c : Bool). c && holds xs n) no ∙ sym (ap (λ (c : Bool). c && (eqb x n || holds xs n)) no))
+          let no : p n ≡ false = ap p (sym q.1) ∙ e in
+          rest ∙ (ap (λ (c : Bool). c && holds xs n) no ∙ sym (ap (λ (c : Bool). c && (eqb x n || holds xs n)) no))
       | inr q ↦ rest ∙ ap (λ (c : Bool). p n && (c || holds xs n)) (sym q.0)
     ]
 

@@ -1,7 +1,6 @@
 -- Lemmas on lists that lie one after another, each in a room of its own.
-use Rattle.std.proofs.Common.{◌≡◌, ◌≢◌, ℕ, zero, suc, ◌+◌, ◌-◌, ◌<◌, ◌≤◌, List, [], ◌∷◌, ◌++◌, length, take, drop, get_or, set, map, refl, ap, sym, ◌∙◌, arith, sum}
-use Rattle.std.proofs.lemmas.List.{take-set-le, drop-set-lt, drop-set-add, length-drop, take_more_set, length-set, length-take-le}
-use Rattle.std.proofs.lemmas.Grind.{common_steps}
+use Rattle.std.proofs.Common.{◌≡◌, ℕ, zero, suc, ◌+◌, ◌-◌, ◌<◌, ◌≤◌, List, [], ◌∷◌, ◌++◌, length, take, drop, get_or, set, map, refl, ap, sym, ◌∙◌, arith}
+use Rattle.std.proofs.lemmas.List.{take-set-le, drop-set-lt, drop-set-add, length-drop, take_more_set, length-take-le}
 use Rattle.face_poset.specs.Cuts.{cut, IsCut}
 use Rattle.face_poset.specs.Rooms.{filled, widths, IsFilled}
 

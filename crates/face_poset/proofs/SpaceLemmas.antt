@@ -1,10 +1,9 @@
 -- Lemmas on spaces.
-use Rattle.std.proofs.Common.{◌≡◌, ◌≢◌, ◌<◌, ◌≤◌, ◌+◌, ◌-◌, ◌++◌, ◌∷◌, [], ℕ, zero, suc, List, inl, inr, length, get_or, map, set, refl, sym, ◌∙◌, ap, arith, subst, All}
+use Rattle.std.proofs.Common.{◌≡◌, ◌≢◌, ◌<◌, ◌≤◌, ◌+◌, ◌-◌, ◌++◌, ◌∷◌, [], ℕ, zero, suc, List, inl, inr, length, get_or, set, sym, ◌∙◌, ap, arith, subst, All}
 use Rattle.std.proofs.lemmas.Bool.Decides.{eqb_tells}
 use Rattle.std.proofs.lemmas.List.{get_or_past, length-set, get_or-set_same, get_or-set_other, length_push, nil_from_length}
 use Rattle.std.proofs.lemmas.List.FromFn.{length-map-range_with_len, get_or-map-range_with_len}
 use Rattle.std.proofs.lemmas.List.Elements.{All-push, All-nil, All-same}
-use Rattle.face_poset.specs.Words.{upto}
 use Rattle.face_poset.specs.Poset.{layer, count, cell_count, cells_with, cofaces_of, IsCell, IsSpace}
 use Rattle.face_poset.specs.Cofaces.{coface_lists, coface_layers}
 
@@ -59,24 +58,24 @@ IsSpace-add space dim facets h le few last vertex cell =
       layers = length-set space dim (layer space dim ++ facets ∷ []) ∙ four;
       vertices = elim (eqb_tells 0 dim) [
         | inl p ↦
-          let e : layer new 0 ≡ layer space 0 ++ facets ∷ [] = subst (λ (n : ℕ). layer new n ≡ layer space n ++ facets ∷ []) (sym p.1) here in
-          All-same (λ fs. fs ≡ []) (layer new 0) (layer space 0 ++ facets ∷ []) e (All-push (λ fs. fs ≡ []) (layer space 0) facets h.vertices (vertex (sym p.1)))
+            let e : layer new 0 ≡ layer space 0 ++ facets ∷ [] = subst (λ (n : ℕ). layer new n ≡ layer space n ++ facets ∷ []) (sym p.1) here in
+            All-same (λ fs. fs ≡ []) (layer new 0) (layer space 0 ++ facets ∷ []) e (All-push (λ fs. fs ≡ []) (layer space 0) facets h.vertices (vertex (sym p.1)))
         | inr p ↦ All-same (λ fs. fs ≡ []) (layer new 0) (layer space 0) (other 0 p.1) h.vertices
       ];
       cells = λ e low. elim (eqb_tells e dim) [
         | inl p ↦
-          let at : layer new e ≡ layer space e ++ facets ∷ [] = subst (λ (n : ℕ). layer new n ≡ layer space n ++ facets ∷ []) (sym p.1) here in
-          let same : count new (e - 1) ≡ count space (e - 1) = ap length (other (e - 1) (λ q. let r : e ≡ dim = p.1 in omega arith)) in
-          let fits : IsCell (count space (e - 1)) facets = subst (λ (n : ℕ). IsCell (count space (n - 1)) facets) (sym p.1) (cell (let r : e ≡ dim = p.1 in omega arith)) in
-          subst (λ (n : ℕ). All (IsCell n) (layer new e)) (sym same)
-          (All-same (IsCell (count space (e - 1))) (layer new e) (layer space e ++ facets ∷ []) at (All-push (IsCell (count space (e - 1))) (layer space e) facets (h.cells e low) fits))
+            let at : layer new e ≡ layer space e ++ facets ∷ [] = subst (λ (n : ℕ). layer new n ≡ layer space n ++ facets ∷ []) (sym p.1) here in
+            let same : count new (e - 1) ≡ count space (e - 1) = ap length (other (e - 1) (λ q. let r : e ≡ dim = p.1 in omega arith)) in
+            let fits : IsCell (count space (e - 1)) facets = subst (λ (n : ℕ). IsCell (count space (n - 1)) facets) (sym p.1) (cell (let r : e ≡ dim = p.1 in omega arith)) in
+            subst (λ (n : ℕ). All (IsCell n) (layer new e)) (sym same)
+            (All-same (IsCell (count space (e - 1))) (layer new e) (layer space e ++ facets ∷ []) at (All-push (IsCell (count space (e - 1))) (layer space e) facets (h.cells e low) fits))
         | inr p ↦ elim (eqb_tells (e - 1) dim) [
           | inl q ↦
-            let none : layer new e ≡ [] = other e p.1 ∙ nil_from_length (layer space e) (last e (let r : e - 1 ≡ dim = q.1 in omega arith)) in
-            All-same (IsCell (count new (e - 1))) (layer new e) [] none (All-nil (IsCell (count new (e - 1))))
+              let none : layer new e ≡ [] = other e p.1 ∙ nil_from_length (layer space e) (last e (let r : e - 1 ≡ dim = q.1 in omega arith)) in
+              All-same (IsCell (count new (e - 1))) (layer new e) [] none (All-nil (IsCell (count new (e - 1))))
           | inr q ↦
-            subst (λ (n : ℕ). All (IsCell n) (layer new e)) (sym (ap length (other (e - 1) q.1)))
-            (All-same (IsCell (count space (e - 1))) (layer new e) (layer space e) (other e p.1) (h.cells e low))
+              subst (λ (n : ℕ). All (IsCell n) (layer new e)) (sym (ap length (other (e - 1) q.1)))
+              (All-same (IsCell (count space (e - 1))) (layer new e) (layer space e) (other e p.1) (h.cells e low))
         ]
       ];
       few = omega (arith, counts_add space dim facets four le);

@@ -1,12 +1,12 @@
 -- Lemmas on the boundary text.
-use Rattle.std.proofs.Common.{◌≡◌, ◌≢◌, ◌<◌, ◌≤◌, ◌+◌, ◌-◌, ◌++◌, ◌∷◌, [], ℕ, zero, suc, Bool, true, false, cond, eqb, List, length, take, drop, get_or, map, refl, sym, ◌∙◌, ap, arith, decimal, append_assoc}
+use Rattle.std.proofs.Common.{◌≡◌, ◌≢◌, ◌<◌, ◌≤◌, ◌+◌, ◌++◌, ◌∷◌, [], ℕ, zero, suc, Bool, cond, List, length, take, drop, get_or, map, refl, sym, ◌∙◌, ap, arith, decimal, append_assoc}
 use Rattle.std.proofs.Math.Dec.{eqb-suc-zero}
-use Rattle.std.specs.List.{flat_map, join_with_byte}
-use Rattle.std.proofs.lemmas.List.{append-nil, take-append-drop, drop_more, take_more, length-take-le, map_more, length-map, drop-map, take-map, get_or-map}
+use Rattle.std.specs.List.{flat_map}
+use Rattle.std.proofs.lemmas.List.{append-nil, take-append-drop, drop_more, take_more, length-take-le, length-map, take-map, get_or-map}
 use Rattle.std.proofs.lemmas.List.Concat.{flat_map-append}
 use Rattle.std.proofs.lemmas.List.FromFn.{length-map-range_with_len, take-map-range_with_len, get_or-map-range_with_len}
 use Rattle.face_poset.specs.Poset.{layer}
-use Rattle.face_poset.specs.Text.{commas, brackets, cell_text, layer_text, layer_texts, layers_text, lead, facet_texts}
+use Rattle.face_poset.specs.Text.{commas, cell_text, layer_text, layer_texts, layers_text, lead, facet_texts}
 
 -- the facets before one, that one, and those after it
 pub facets-split : (facets : List ℕ) (i : ℕ) → i < length facets → facet_texts (take i facets) ++ (44 ∷ decimal (get_or facets i 0)) ++ facet_texts (drop (i + 1) facets) ≡ facet_texts facets

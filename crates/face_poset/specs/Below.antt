@@ -1,5 +1,5 @@
 -- The closed cell: a cell with all its faces.
-use Rattle.std.specs.Prelude.{◌≡◌, ℕ, zero, suc, ◌+◌, List, [], ◌∷◌, ◌++◌, filter, map, Contains}
+use Rattle.std.specs.Prelude.{ℕ, zero, suc, ◌+◌, List, [], ◌∷◌, ◌++◌, filter, map, Contains}
 use Rattle.std.specs.List.{list_any}
 use Rattle.face_poset.specs.declared.cells.Cell.{Cell}
 use Rattle.face_poset.specs.Words.{upto, holds}

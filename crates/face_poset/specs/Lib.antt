@@ -1,5 +1,9 @@
 pub mod Words
 pub mod Poset
+pub mod Positions
+pub mod Reader
+pub mod Laws
+pub mod Layers
 pub mod Signs
 pub mod Text
 pub mod Below

@@ -52,6 +52,12 @@ abbrev pub dimension_of : List (List (List ℕ)) → ℕ
 dimension_of space =
     cond (nat_le 1 (count space 3)) 3 (cond (nat_le 1 (count space 2)) 2 (cond (nat_le 1 (count space 1)) 1 0))
 
+-- some cell has this dimension, and none a greater one
+pub record IsDimension (space : List (List (List ℕ))) (n : ℕ) : Type 0 where
+  pub some : 1 ≤ count space n
+  pub last : (dim : ℕ) → n < dim → count space dim ≡ 0
+  pub low : n ≤ 3
+
 -- the alternating sum of the numbers of cells
 abbrev pub euler_of : List (List (List ℕ)) → ℤ
 euler_of space = pos (count space 0) -ℤ pos (count space 1) +ℤ pos (count space 2) -ℤ pos (count space 3)

@@ -1,11 +1,15 @@
 -- Lists that lie one after another, each in a room of its own.
-use Rattle.std.specs.Prelude.{◌≡◌, ℕ, ◌+◌, ◌-◌, ◌<◌, ◌≤◌, List, [], ◌∷◌, ◌++◌, length, cond, slice_index_or, take, drop}
+use Rattle.std.specs.Prelude.{◌≡◌, ℕ, ◌+◌, ◌-◌, ◌<◌, ◌≤◌, List, [], ◌∷◌, ◌++◌, length, cond, slice_index, slice_index_or, take, drop}
 use Rattle.face_poset.specs.Words.{holds}
 
 -- how many entries each list has room for, and what it holds so far
 pub record Filling : Type 0 where
   pub rooms : List ℕ
   pub parts : List (List ℕ)
+
+-- the list at an index has room for one more entry
+abbrev pub HasRoom : Filling → ℕ → Type 0
+HasRoom filling index = length (slice_index_or filling.parts index []) < slice_index filling.rooms index
 
 -- the sizes of the rooms, by their ends
 abbrev pub widths : ℕ → List ℕ → List ℕ

@@ -7,7 +7,8 @@ use crate::cells::{Cell, CellList};
 use crate::lists::Lists;
 use std::alloc::{AllocError, Global};
 
-/// Puts these cells of a dimension and all their faces last in the list, by dimension, then by number.
+/// Puts these cells of a dimension and all their faces last in the list, by dimension, then by
+/// number.
 pub(crate) fn push_closure(
     alloc: Global,
     layers: &[Lists; 4],

@@ -2,7 +2,7 @@ ghost use Rattle.std.specs.Prelude.{◌≡◌, ℕ, ◌≤◌, ◌<◌, ◌+◌,
 ghost use Rattle.face_poset.specs.Poset.{layer, count, cell_count, IsCell};
 
 use crate::lists::Lists;
-use crate::space::Space;
+use crate::space::{MOST_CELLS, Space};
 use std::alloc::{AllocError, Global};
 use std::marker::Model;
 use thiserror::Error;
@@ -55,9 +55,10 @@ impl Builder {
 
     /// Adds a cell, and answers its number in its dimension, counted from 1.
     ///
-    /// The dimension is not below that of a cell that stands. A vertex has no facet; the facets of any
-    /// other cell are strictly increasing numbers of cells that stand, one dimension below.
-    /// `TooManyCells` comes exactly where 60,000 cells stand. After a refusal the builder is as before.
+    /// The dimension is not below that of a cell that stands. A vertex has no facet; the facets of
+    /// any other cell are strictly increasing numbers of cells that stand, one dimension below.
+    /// `TooManyCells` comes exactly where 60,000 cells stand. After a refusal the builder is as
+    /// before.
     pub fn add(&mut self, dim: u8, facets: &[u32]) -> Result<u32, BuildFault>
         requires dim { dim ≤ 3 }
         requires last { (above : ℕ) → dim < above → count self.old above ≡ 0 }
@@ -69,8 +70,11 @@ impl Builder {
         ensures only_full { result ≡ Err BuildFault.TooManyCells → cell_count self.old ≡ 60000 }
         ensures unchanged { OnErr result (self.new ≡ self.old) }
     {
-        let standing = self.facets[0].len() + self.facets[1].len() + self.facets[2].len() + self.facets[3].len();
-        if standing >= 60000 {
+        let standing = self.facets[0].len()
+            + self.facets[1].len()
+            + self.facets[2].len()
+            + self.facets[3].len();
+        if standing >= MOST_CELLS {
             return Err(BuildFault::TooManyCells);
         }
         let layer = &mut self.facets[dim as usize];

@@ -10,8 +10,8 @@ pub struct Cell {
     pub number: u32,
 }
 
-/// A cell with one of its cofaces, by their numbers: `lower` has dimension `dim`, and `upper`, of which
-/// it is a facet, has dimension `dim + 1`.
+/// A cell with one of its cofaces, by their numbers: `lower` has dimension `dim`, and `upper`, of
+/// which it is a facet, has dimension `dim + 1`.
 #[derive(Clone, Copy, PartialEq, Eq, Debug)]
 pub struct Pair {
     pub dim: u8,

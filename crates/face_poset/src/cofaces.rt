@@ -1,5 +1,5 @@
 ghost use Rattle.std.specs.Prelude.{◌≡◌, ◌-◌, ◌<◌, ◌≤◌, ◌==◌, [], length, map, count_by, slice_index, slice_index_or, All, IfOk};
-ghost use Rattle.face_poset.specs.Rooms.{AllGain};
+ghost use Rattle.face_poset.specs.Rooms.{HasRoom, AllGain};
 ghost use Rattle.std.specs.List.Sorted.{IsStrictlyIncreasing};
 ghost use Rattle.face_poset.specs.Words.{upto};
 ghost use Rattle.face_poset.specs.Cofaces.{IsRising, coface_lists};
@@ -38,7 +38,7 @@ fn tally(alloc: Global, most: usize, numbers: &[u32]) -> Result<Vec<usize>, Allo
 fn put_all(slots: &mut Slots, numbers: &[u32], value: u32)
     requires rises { IsStrictlyIncreasing numbers.now }
     requires first { All (λ n. 1 ≤ n) numbers.now }
-    requires room { All (λ n. length (slice_index_or slots.old.parts (n - 1) []) < slice_index slots.old.rooms (n - 1)) numbers.now }
+    requires room { All (λ n. HasRoom slots.old (n - 1)) numbers.now }
     requires within { length slots.old.rooms ≤ length slots.old.parts }
     ensures rooms { slots.new.rooms ≡ slots.old.rooms }
     ensures len { length slots.new.parts ≡ length slots.old.parts }

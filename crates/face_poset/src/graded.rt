@@ -4,9 +4,9 @@ ghost use Rattle.face_poset.specs.Signs.{sign_of, SignsCancel};
 
 /// Cells of dimensions 0 to 3 with their facets and cofaces.
 ///
-/// Facets are strictly increasing numbers of cells of one dimension less; a vertex has none. Cofaces are
-/// exactly the cells of one dimension more with this facet, in increasing order. There is no cell above
-/// dimension 3, and at most 4,294,967,295 cells in all.
+/// Facets are strictly increasing numbers of cells of one dimension less; a vertex has none.
+/// Cofaces are exactly the cells of one dimension more with this facet, in increasing order. There
+/// is no cell above dimension 3, and at most 4,294,967,295 cells in all.
 pub trait Graded {
     /// The cells of each dimension, each as the list of its facets.
     ghost space: { Self → List (List (List ℕ)) };
@@ -31,8 +31,8 @@ pub trait Graded {
         ensures valid { IsSpace (space self.now) };
 }
 
-/// A graded set whose facets have signs: over each cell and each facet of its facets, the products of
-/// the signs sum to 0.
+/// A graded set whose facets have signs: over each cell and each facet of its facets, the products
+/// of the signs sum to 0.
 pub trait Signed: Graded {
     /// Whether the sign of a facet is -1: at a dimension, a cell and the number of the facet.
     ghost negative: { Self → ℕ → ℕ → ℕ → Bool };

@@ -31,7 +31,8 @@ pub(crate) fn write_layers<K: Sink>(
 /// Appends the texts of the layers up to a dimension with commas between them.
 fn write_items<K: Sink>(sink: &mut K, layers: &[Lists; 4], dimension: u8) -> Result<(), Failed>
     requires { dimension ≤ 3 }
-    ensures bytes { Writes (K.written sink.old) (K.written sink.new) (commas (layer_texts layers.now (dimension + 1))) result }
+    ensures bytes { let text = commas (layer_texts layers.now (dimension + 1)) in
+        Writes (K.written sink.old) (K.written sink.new) text result }
     ensures cause { HasCause (K.faults sink.old) (K.faults sink.new) result }
 {
     for dim in 0..dimension + 1 {
@@ -42,13 +43,9 @@ fn write_items<K: Sink>(sink: &mut K, layers: &[Lists; 4], dimension: u8) -> Res
 }
 
 /// Appends the text of a layer after a lead.
-fn write_layer<K: Sink>(
-    sink: &mut K,
-    lead: &[u8],
-    dim: u8,
-    cells: &Lists,
-) -> Result<(), Failed>
-    ensures bytes { Writes (K.written sink.old) (K.written sink.new) (lead.now ++ layer_text dim cells.now) result }
+fn write_layer<K: Sink>(sink: &mut K, lead: &[u8], dim: u8, cells: &Lists) -> Result<(), Failed>
+    ensures bytes { Writes (K.written sink.old) (K.written sink.new)
+        (lead.now ++ layer_text dim cells.now) result }
     ensures cause { HasCause (K.faults sink.old) (K.faults sink.new) result }
 {
     open_list(sink, lead)?;
@@ -66,7 +63,8 @@ fn open_list<K: Sink>(sink: &mut K, lead: &[u8]) -> Result<(), Failed>
 
 /// Appends the texts of the cells with commas between them.
 fn write_cells<K: Sink>(sink: &mut K, dim: u8, cells: &Lists) -> Result<(), Failed>
-    ensures bytes { Writes (K.written sink.old) (K.written sink.new) (commas (map (cell_text dim) cells.now)) result }
+    ensures bytes { let text = commas (map (cell_text dim) cells.now) in
+        Writes (K.written sink.old) (K.written sink.new) text result }
     ensures cause { HasCause (K.faults sink.old) (K.faults sink.new) result }
 {
     for index in 0..cells.len() {
@@ -76,13 +74,9 @@ fn write_cells<K: Sink>(sink: &mut K, dim: u8, cells: &Lists) -> Result<(), Fail
 }
 
 /// Appends the text of a cell after a lead.
-fn write_cell<K: Sink>(
-    sink: &mut K,
-    lead: &[u8],
-    dim: u8,
-    facets: &[u32],
-) -> Result<(), Failed>
-    ensures bytes { Writes (K.written sink.old) (K.written sink.new) (lead.now ++ cell_text dim facets.now) result }
+fn write_cell<K: Sink>(sink: &mut K, lead: &[u8], dim: u8, facets: &[u32]) -> Result<(), Failed>
+    ensures bytes { Writes (K.written sink.old) (K.written sink.new)
+        (lead.now ++ cell_text dim facets.now) result }
     ensures cause { HasCause (K.faults sink.old) (K.faults sink.new) result }
 {
     if dim == 0 {
@@ -132,8 +126,5 @@ fn write_facet<K: Sink>(sink: &mut K, facet: u32) -> Result<(), Failed>
     ensures bytes { Writes (K.written sink.old) (K.written sink.new) (44 ∷ decimal facet) result }
     ensures cause { HasCause (K.faults sink.old) (K.faults sink.new) result }
 {
-    write_pieces(
-        sink,
-        &[Piece::Text(b","), Piece::Number(i128::from(facet))],
-    )
+    write_pieces(sink, &[Piece::Text(b","), Piece::Number(i128::from(facet))])
 }

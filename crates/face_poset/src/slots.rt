@@ -1,4 +1,5 @@
 ghost use Rattle.std.specs.Prelude.{◌≡◌, ◌∷◌, ◌++◌, ◌<◌, [], length, map, slice_index, slice_index_or, slice_set, IfOk};
+ghost use Rattle.face_poset.specs.Rooms.{HasRoom};
 
 use crate::lists::Lists;
 use std::alloc::{AllocError, Global};
@@ -18,7 +19,10 @@ impl Model for Slots {
 
     ghost Value = { Filling };
 
-    ghost view = { λ s. record { rooms = widths 0 s.ends.items; parts = filled 0 s.ends.items s.nexts.items s.entries.items } };
+    ghost view = { λ s. record {
+      rooms = widths 0 s.ends.items;
+      parts = filled 0 s.ends.items s.nexts.items s.entries.items;
+    } };
 
     ghost invariant = { λ s. IsFilled 0 s.ends.items s.nexts.items (length s.entries.items) };
 }
@@ -47,9 +51,10 @@ impl Slots {
 
     /// Puts an entry last in the list at an index, counted from 0.
     pub(crate) fn put(&mut self, index: usize, value: u32)
-        requires room { length (slice_index_or self.old.parts index []) < slice_index self.old.rooms index }
+        requires room { HasRoom self.old index }
         ensures rooms { self.new.rooms ≡ self.old.rooms }
-        ensures parts { self.new.parts ≡ slice_set self.old.parts index (slice_index_or self.old.parts index [] ++ value ∷ []) }
+        ensures parts { self.new.parts ≡ slice_set self.old.parts index
+            (slice_index_or self.old.parts index [] ++ value ∷ []) }
     {
         let at = self.nexts[index];
         self.entries[at] = value;

@@ -2,8 +2,9 @@ ghost use Rattle.std.specs.Prelude.{◌≡◌, ◌≤◌, IfOk};
 ghost use Rattle.hap_outside.specs.Causes.{HasCause};
 ghost use Rattle.hap_outside.specs.Writes.{Writes};
 ghost use Rattle.face_poset.specs.Text.{boundary_text};
+ghost use Rattle.face_poset.specs.Laws.{ReadsAs};
 ghost use Rattle.face_poset.specs.Below.{closed_cell};
-ghost use Rattle.face_poset.specs.Poset.{count, facets_of, cofaces_of, IsSpace, IsLimited, dimension_of, euler_of};
+ghost use Rattle.face_poset.specs.Poset.{count, facets_of, cofaces_of, IsSpace, IsLimited, dimension_of, IsDimension, euler_of};
 
 use crate::below::push_closure;
 use crate::cells::CellList;
@@ -15,8 +16,11 @@ use hap_outside::{Failed, Sink};
 use std::alloc::{AllocError, Global};
 use std::marker::Model;
 
-/// A space with at least one vertex and at most 60,000 cells in all. Contracts see it as four lists of
-/// cells, each cell as the list of its facets.
+/// The most cells that a space may have.
+pub(crate) const MOST_CELLS: usize = 60_000;
+
+/// A space with at least one vertex and at most 60,000 cells in all. Contracts see it as four lists
+/// of cells, each cell as the list of its facets.
 #[derive(Drop)]
 pub struct Space {
     facets: [Lists; 4],
@@ -32,7 +36,8 @@ impl Model for Space {
 
     ghost view = { λ s. s.facets };
 
-    ghost invariant = { λ s. IsSpace s.facets × IsLimited s.facets × (s.cofaces ≡ coface_layers s.facets) };
+    ghost invariant = { λ s.
+        IsSpace s.facets × IsLimited s.facets × (s.cofaces ≡ coface_layers s.facets) };
 }
 
 impl Space {
@@ -55,7 +60,7 @@ impl Space {
     /// The greatest dimension that has a cell.
     pub fn dimension(&self) -> u8
         ensures dimension { result ≡ dimension_of self.now }
-        ensures most { result ≤ 3 }
+        ensures greatest { IsDimension self.now result }
     {
         if self.cells(3) > 0 {
             3
@@ -93,6 +98,7 @@ impl Space {
     /// Appends the boundary text of the space, or a prefix of it and fails.
     pub fn print<K: Sink>(&self, sink: &mut K) -> Result<(), Failed>
         ensures bytes { Writes (K.written sink.old) (K.written sink.new) (boundary_text self.now) result }
+        ensures reads { ReadsAs (boundary_text self.now) self.now }
         ensures cause { HasCause (K.faults sink.old) (K.faults sink.new) result }
     {
         write_layers(sink, &self.facets, self.dimension())

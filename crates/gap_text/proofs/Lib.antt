@@ -1,5 +1,12 @@
+pub mod Accepted
+pub mod Classes
 pub mod Counted
+pub mod Joined
+pub mod Lexed
+pub mod Placed
+pub mod Printed
 pub mod Run
+pub mod Spelled
 pub mod Stack
 pub mod Steps
 pub mod Views

@@ -3,6 +3,8 @@ pub mod Code
 pub mod Nest
 pub mod Falls
 pub mod Tokens
+pub mod Places
 pub mod Reading
+pub mod Grammar
 pub mod States
 pub mod Readers

@@ -1,5 +1,5 @@
 -- The value of a text, or its first fault: what the tokens so far allow next, one token at a time.
-use Rattle.std.specs.Prelude.{ℕ, zero, suc, ◌+◌, ◌-◌, List, [], ◌∷◌, ◌++◌, length, nat_lt, nat_le, if◌then◌else◌, Result, Ok, Err}
+use Rattle.std.specs.Prelude.{Bool, true, false, ℕ, zero, suc, ◌+◌, ◌-◌, List, [], ◌∷◌, ◌++◌, length, nat_lt, nat_le, if◌then◌else◌, Result, Ok, Err}
 use Rattle.gap_text.specs.declared.fault.TextFault.{TextFault}
 use Rattle.gap_text.specs.declared.fault.TextFault.TheVariants.{BadByte, Unclosed, Stray, Stepped, BadRange, NumberTooBig, TooDeep}
 use Rattle.gap_text.specs.declared.state.Shape.{Shape}
@@ -69,10 +69,22 @@ counted place a (suc n) = number place a ∷ counted place (suc a) n
 
 -- ---- one token
 
+-- a value may come
+abbrev pub takes_value : Phase → Bool
+takes_value AnyValue = true
+takes_value FirstItem = true
+takes_value _ = false
+
+-- the innermost list may end
+abbrev pub takes_close : Phase → Bool
+takes_close FirstItem = true
+takes_close AfterItem = true
+takes_close RangeClose = true
+takes_close _ = false
+
 abbrev pub after_open : Phase → List Level → ℕ → ℕ → Result State TextFault
-after_open AnyValue ls made p = if nat_lt (length ls) 8 then Ok (at FirstItem (level p [] ∷ ls) made) else Err (TooDeep p)
-after_open FirstItem ls made p = if nat_lt (length ls) 8 then Ok (at FirstItem (level p [] ∷ ls) made) else Err (TooDeep p)
-after_open phase ls made p = Err (refused phase p)
+after_open phase ls made p =
+    if takes_value phase then (if nat_lt (length ls) 8 then Ok (at FirstItem (level p [] ∷ ls) made) else Err (TooDeep p)) else Err (refused phase p)
 
 -- the innermost list is over
 abbrev pub closed : List Level → ℕ → ℕ → Result State TextFault
@@ -80,10 +92,7 @@ closed [] made p = Err (Stray p)
 closed (l ∷ ls) made p = Ok (put (list l.place (values l.so_far)) ls made)
 
 abbrev pub after_close : Phase → List Level → ℕ → ℕ → Result State TextFault
-after_close FirstItem ls made p = closed ls made p
-after_close AfterItem ls made p = closed ls made p
-after_close RangeClose ls made p = closed ls made p
-after_close phase ls made p = Err (refused phase p)
+after_close phase ls made p = if takes_close phase then closed ls made p else Err (refused phase p)
 
 abbrev pub after_comma : Phase → List Level → ℕ → ℕ → Result State TextFault
 after_comma AfterItem ls made p = Ok (at AnyValue ls made)

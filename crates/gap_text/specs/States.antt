@@ -14,6 +14,11 @@ abbrev pub Gives : {A B : Type 0} → (see : A → B) → Result B TextFault →
 Gives see wanted (Ok a) = wanted ≡ Ok (see a)
 Gives see wanted (Err f) = f ≢ Memory → wanted ≡ Err f
 
+-- the same of a call that changes a state, which is then this one
+abbrev pub Takes : {A B : Type 0} → Result B TextFault → (now : B) → Result A TextFault → Type 0
+Takes wanted now (Ok a) = wanted ≡ Ok now
+Takes wanted now (Err f) = f ≢ Memory → wanted ≡ Err f
+
 abbrev pub phase_of : CodePhase → Phase
 phase_of phase.AnyValue = AnyValue
 phase_of phase.FirstItem = FirstItem

@@ -4,7 +4,11 @@ use crate::fault::TextFault;
 use std::alloc::Global;
 use std::marker::Model;
 
-/// A number or a list, with the place of its first byte in the text, counted from 0.
+/// Lists of fewer items are kept in blocks of just their size.
+const SHORT: usize = 8;
+
+/// A number or a list, with the place of its first byte in the text, counted from 0. The numbers that
+/// a range made have the place of its first number.
 #[derive(Debug, Drop)]
 #[cycle(nest)]
 pub enum Nest {
@@ -47,7 +51,7 @@ impl Items {
     ghost use Rattle.gap_text.specs.Nest.{view};
     ghost use Rattle.gap_text.specs.declared.fault.TextFault.TheVariants.{Memory};
 
-    /// The list of these items, in a block of just their size.
+    /// The list of these items. A short list gets a block of just its size.
     pub(crate) fn from_nests(alloc: Global, mut nests: Vec<Nest>) -> Result<Items, TextFault>
         ensures list { IfOk result (λ items. items ≡ map view nests.items) }
         ensures err { IfErr result (λ fault. fault ≡ Memory) }
@@ -55,9 +59,12 @@ impl Items {
         if nests.len() > u32::MAX as usize {
             return Err(TextFault::Memory);
         }
-        let mut exact = Vec::with_capacity(alloc, nests.len())?;
-        exact.append(&mut nests)?;
-        Ok(Items { nests: exact })
+        if nests.len() >= SHORT {
+            return Ok(Items { nests });
+        }
+        let mut short = Vec::with_capacity(alloc, nests.len())?;
+        short.append(&mut nests)?;
+        Ok(Items { nests: short })
     }
 
     /// The number of items.

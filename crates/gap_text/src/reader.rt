@@ -1,6 +1,6 @@
 ghost use Rattle.std.specs.Prelude.{◌≡◌, []};
 ghost use Rattle.gap_text.specs.Nest.{view};
-ghost use Rattle.gap_text.specs.States.{Gives, state_of};
+ghost use Rattle.gap_text.specs.States.{Gives, Takes, state_of};
 ghost use Rattle.gap_text.specs.Readers.{reader_of, fed, rest, begun, at_start};
 
 use crate::byte::Class;
@@ -41,27 +41,22 @@ impl Reader {
     }
 
     /// After one more byte.
-    pub fn feed(self, place: u32, class: Class) -> Result<Reader, TextFault>
-        ensures { Gives reader_of (fed (reader_of self) place class) result }
+    pub fn feed(&mut self, place: u32, class: Class) -> Result<(), TextFault>
+        ensures { Takes (fed (reader_of self.old) place class) (reader_of self.new) result }
     {
-        let Reader { alloc, state, mode } = self;
-        match mode {
-            Mode::Between => begin(alloc, state, place, class),
+        match self.mode {
+            Mode::Between => self.begin(place, class),
             Mode::Comment => {
-                let mode = match class {
-                    Class::LineFeed => Mode::Between,
-                    _ => Mode::Comment,
-                };
-                Ok(Reader { alloc, state, mode })
+                if let Class::LineFeed = class {
+                    self.mode = Mode::Between;
+                }
+                Ok(())
             }
             Mode::Dot { place: first } => match class {
                 Class::Point => {
-                    let state = state.after_dots(first)?;
-                    Ok(Reader {
-                        alloc,
-                        state,
-                        mode: Mode::Between,
-                    })
+                    self.state.after_dots(first)?;
+                    self.mode = Mode::Between;
+                    Ok(())
                 }
                 _ => Err(TextFault::BadByte(first)),
             },
@@ -74,17 +69,47 @@ impl Reader {
                         .saturating_mul(10)
                         .saturating_add(u64::from(digit))
                         .min(TOO_BIG);
-                    Ok(Reader {
-                        alloc,
-                        state,
-                        mode: Mode::Digits {
-                            place: first,
-                            value,
-                        },
-                    })
+                    self.mode = Mode::Digits {
+                        place: first,
+                        value,
+                    };
+                    Ok(())
                 }
-                class => begin(alloc, state.after_number(first, value)?, place, class),
+                class => {
+                    self.state.after_number(first, value)?;
+                    self.begin(place, class)
+                }
             },
+        }
+    }
+
+    /// After a byte where nothing is begun.
+    fn begin(&mut self, place: u32, class: Class) -> Result<(), TextFault>
+        ensures { Takes (begun (state_of self.old.state) place class) (reader_of self.new) result }
+    {
+        self.mode = Mode::Between;
+        match class {
+            Class::LeftBracket => self.state.after_open(self.alloc, place),
+            Class::RightBracket => self.state.after_close(self.alloc, place),
+            Class::CommaSign => self.state.after_comma(place),
+            Class::SemicolonSign => self.state.after_semicolon(place),
+            Class::Blank | Class::LineFeed => Ok(()),
+            Class::Hash => {
+                self.mode = Mode::Comment;
+                Ok(())
+            }
+            Class::Point => {
+                self.mode = Mode::Dot { place };
+                Ok(())
+            }
+            Class::Digit(digit) => {
+                self.mode = Mode::Digits {
+                    place,
+                    value: u64::from(digit),
+                };
+                Ok(())
+            }
+            Class::Other => Err(TextFault::BadByte(place)),
         }
     }
 
@@ -94,7 +119,7 @@ impl Reader {
     {
         let Reader {
             alloc: _,
-            state,
+            mut state,
             mode,
         } = self;
         match mode {
@@ -103,38 +128,10 @@ impl Reader {
             Mode::Digits {
                 place: first,
                 value,
-            } => state.after_number(first, value)?.into_value(place),
+            } => {
+                state.after_number(first, value)?;
+                state.into_value(place)
+            }
         }
     }
-}
-
-/// After a byte where nothing is begun.
-fn begin(alloc: Global, state: State, place: u32, class: Class) -> Result<Reader, TextFault>
-    ensures { Gives reader_of (begun (state_of state) place class) result }
-{
-    let mut mode = Mode::Between;
-    let state = match class {
-        Class::LeftBracket => state.after_open(alloc, place)?,
-        Class::RightBracket => state.after_close(alloc, place)?,
-        Class::CommaSign => state.after_comma(place)?,
-        Class::SemicolonSign => state.after_semicolon(place)?,
-        Class::Blank | Class::LineFeed => state,
-        Class::Hash => {
-            mode = Mode::Comment;
-            state
-        }
-        Class::Point => {
-            mode = Mode::Dot { place };
-            state
-        }
-        Class::Digit(digit) => {
-            mode = Mode::Digits {
-                place,
-                value: u64::from(digit),
-            };
-            state
-        }
-        Class::Other => return Err(TextFault::BadByte(place)),
-    };
-    Ok(Reader { alloc, state, mode })
 }

@@ -1,12 +1,13 @@
 ghost use Rattle.std.specs.Prelude.{◌≡◌, ◌+◌, ◌≤◌, ◌^◌, ◌++◌, map, OnOk, IfErr, Ok};
 ghost use Rattle.gap_text.specs.Nest.{view};
-ghost use Rattle.gap_text.specs.Reading.{at, RangeClose, put, filled, counted, step, refused, shape_of, start, value_at_end};
+ghost use Rattle.gap_text.specs.Reading.{at, RangeClose, takes_value, takes_close, put, filled, counted, step, refused, shape_of, start, value_at_end};
 ghost use Rattle.gap_text.specs.Tokens.{Open, Close, Comma, Dots, Semicolon, Number};
-ghost use Rattle.gap_text.specs.States.{Gives, phase_of, levels_of, state_of};
+ghost use Rattle.gap_text.specs.States.{Gives, Takes, phase_of, levels_of, state_of};
 
 use crate::fault::TextFault;
 use crate::nest::{Items, Nest};
 use std::alloc::Global;
+use std::mem;
 
 /// How many lists may lie in one another.
 const DEEPEST: usize = 8;
@@ -50,6 +51,23 @@ enum Shape {
     Longer,
 }
 
+impl Phase {
+    fn takes_value(&self) -> bool
+        ensures { result ≡ takes_value (phase_of self.now) }
+    {
+        matches!(self, Phase::AnyValue | Phase::FirstItem)
+    }
+
+    fn takes_close(&self) -> bool
+        ensures { result ≡ takes_close (phase_of self.now) }
+    {
+        matches!(
+            self,
+            Phase::FirstItem | Phase::AfterItem | Phase::RangeClose
+        )
+    }
+}
+
 fn shape_so_far(so_far: &[Nest]) -> Shape
     ensures { result ≡ shape_of (map view so_far.now) }
 {
@@ -78,70 +96,6 @@ fn refused(phase: &Phase, place: u32) -> TextFault
     }
 }
 
-/// Makes the value an item of the innermost list, or the value of the text.
-fn put(mut open_lists: Vec<Level>, made: u32, nest: Nest) -> Result<State, TextFault>
-    ensures { Gives state_of (Ok (put (view nest) (levels_of open_lists.items) made)) result }
-{
-    let Some(mut level) = open_lists.pop() else {
-        return Ok(State {
-            phase: Phase::Whole(nest),
-            open_lists,
-            made,
-        });
-    };
-    level.so_far.push(nest)?;
-    open_lists.push(level)?;
-    Ok(State {
-        phase: Phase::AfterItem,
-        open_lists,
-        made,
-    })
-}
-
-/// Gives the innermost list the numbers of a range.
-fn fill(
-    mut open_lists: Vec<Level>,
-    made: u32,
-    place: u32,
-    first: u32,
-    count: u32,
-) -> Result<State, TextFault>
-    requires numbers { first + count ≤ 2 ^ 32 }
-    requires few { made + count ≤ 1000000 }
-    ensures { Gives state_of (Ok (at RangeClose (filled (counted place first count) (levels_of open_lists.items)) (made + count))) result }
-{
-    let made = made + count;
-    let Some(mut level) = open_lists.pop() else {
-        return Ok(State {
-            phase: Phase::RangeClose,
-            open_lists,
-            made,
-        });
-    };
-    push_range(&mut level.so_far, place, first, count)?;
-    open_lists.push(level)?;
-    Ok(State {
-        phase: Phase::RangeClose,
-        open_lists,
-        made,
-    })
-}
-
-/// Puts the numbers from `first` on, `count` of them, last in the list.
-fn push_range(so_far: &mut Vec<Nest>, place: u32, first: u32, count: u32) -> Result<(), TextFault>
-    requires { first + count ≤ 2 ^ 32 }
-    ensures numbers { OnOk result (map view so_far.new.items ≡ map view so_far.old.items ++ counted place first count) }
-    ensures err { IfErr result (λ fault. fault ≡ TextFault.Memory) }
-{
-    for index in 0..count {
-        so_far.push(Nest::Number {
-            place,
-            value: first + index,
-        })?;
-    }
-    Ok(())
-}
-
 impl State {
     pub fn new(alloc: Global) -> State
         ensures { state_of result ≡ start }
@@ -153,102 +107,89 @@ impl State {
         }
     }
 
-    /// After a `[`.
-    pub fn after_open(self, alloc: Global, place: u32) -> Result<State, TextFault>
-        ensures { Gives state_of (step (state_of self) (Open place)) result }
+    /// Makes the value an item of the innermost list, or the value of the text.
+    fn put(&mut self, nest: Nest) -> Result<(), TextFault>
+        ensures { Takes (Ok (put (view nest) (levels_of self.old.open_lists.items) self.old.made)) (state_of self.new) result }
     {
-        let State {
-            phase,
-            mut open_lists,
-            made,
-        } = self;
-        match phase {
-            Phase::AnyValue | Phase::FirstItem => {
-                if open_lists.len() >= DEEPEST {
-                    return Err(TextFault::TooDeep(place));
-                }
-                open_lists.push(Level {
-                    place,
-                    so_far: Vec::new(alloc),
-                })?;
-                Ok(State {
-                    phase: Phase::FirstItem,
-                    open_lists,
-                    made,
-                })
+        match self.open_lists.pop() {
+            None => {
+                self.phase = Phase::Whole(nest);
+                Ok(())
             }
-            phase => Err(refused(&phase, place)),
+            Some(mut level) => {
+                level.so_far.push(nest)?;
+                self.open_lists.push(level)?;
+                self.phase = Phase::AfterItem;
+                Ok(())
+            }
         }
+    }
+
+    /// After a `[`.
+    pub fn after_open(&mut self, alloc: Global, place: u32) -> Result<(), TextFault>
+        ensures { Takes (step (state_of self.old) (Open place)) (state_of self.new) result }
+    {
+        if !self.phase.takes_value() {
+            return Err(refused(&self.phase, place));
+        }
+        if self.open_lists.len() >= DEEPEST {
+            return Err(TextFault::TooDeep(place));
+        }
+        self.open_lists.push(Level {
+            place,
+            so_far: Vec::new(alloc),
+        })?;
+        self.phase = Phase::FirstItem;
+        Ok(())
     }
 
     /// After a `]`.
-    pub fn after_close(self, alloc: Global, place: u32) -> Result<State, TextFault>
-        ensures { Gives state_of (step (state_of self) (Close place)) result }
+    pub fn after_close(&mut self, alloc: Global, place: u32) -> Result<(), TextFault>
+        ensures { Takes (step (state_of self.old) (Close place)) (state_of self.new) result }
     {
-        let State {
-            phase,
-            mut open_lists,
-            made,
-        } = self;
-        match phase {
-            Phase::FirstItem | Phase::AfterItem | Phase::RangeClose => {
-                let Some(level) = open_lists.pop() else {
-                    return Err(TextFault::Stray(place));
-                };
-                let place = level.place;
-                let items = Items::from_nests(alloc, level.so_far)?;
-                put(open_lists, made, Nest::List { place, items })
-            }
-            phase => Err(refused(&phase, place)),
+        if !self.phase.takes_close() {
+            return Err(refused(&self.phase, place));
         }
+        let Some(level) = self.open_lists.pop() else {
+            return Err(TextFault::Stray(place));
+        };
+        let place = level.place;
+        let items = Items::from_nests(alloc, level.so_far)?;
+        self.put(Nest::List { place, items })
     }
 
     /// After a `,`.
-    pub fn after_comma(self, place: u32) -> Result<State, TextFault>
-        ensures { Gives state_of (step (state_of self) (Comma place)) result }
+    pub fn after_comma(&mut self, place: u32) -> Result<(), TextFault>
+        ensures { Takes (step (state_of self.old) (Comma place)) (state_of self.new) result }
     {
-        let State {
-            phase,
-            open_lists,
-            made,
-        } = self;
-        match phase {
-            Phase::AfterItem => Ok(State {
-                phase: Phase::AnyValue,
-                open_lists,
-                made,
-            }),
-            phase => Err(refused(&phase, place)),
+        match &self.phase {
+            Phase::AfterItem => {
+                self.phase = Phase::AnyValue;
+                Ok(())
+            }
+            phase => Err(refused(phase, place)),
         }
     }
 
     /// After a `..`.
-    pub fn after_dots(self, place: u32) -> Result<State, TextFault>
-        ensures { Gives state_of (step (state_of self) (Dots place)) result }
+    pub fn after_dots(&mut self, place: u32) -> Result<(), TextFault>
+        ensures { Takes (step (state_of self.old) (Dots place)) (state_of self.new) result }
     {
-        let State {
-            phase,
-            mut open_lists,
-            made,
-        } = self;
-        let Phase::AfterItem = phase else {
+        let Phase::AfterItem = &self.phase else {
             return Err(TextFault::BadRange(place));
         };
-        let Some(mut level) = open_lists.pop() else {
+        let Some(mut level) = self.open_lists.pop() else {
             return Err(TextFault::BadRange(place));
         };
         match shape_so_far(&level.so_far) {
             Shape::OneNumber { place, value } => {
                 level.so_far.truncate(0);
-                open_lists.push(level)?;
-                Ok(State {
-                    phase: Phase::RangeEnd {
-                        place,
-                        first: value,
-                    },
-                    open_lists,
-                    made,
-                })
+                self.open_lists.push(level)?;
+                self.phase = Phase::RangeEnd {
+                    place,
+                    first: value,
+                };
+                Ok(())
             }
             Shape::TwoNumbers => Err(TextFault::Stepped(place)),
             Shape::Longer => Err(TextFault::BadRange(place)),
@@ -256,51 +197,57 @@ impl State {
     }
 
     /// After a `;`.
-    pub fn after_semicolon(self, place: u32) -> Result<State, TextFault>
-        ensures { Gives state_of (step (state_of self) (Semicolon place)) result }
+    pub fn after_semicolon(&mut self, place: u32) -> Result<(), TextFault>
+        ensures { Takes (step (state_of self.old) (Semicolon place)) (state_of self.new) result }
     {
-        let State {
-            phase,
-            open_lists,
-            made,
-        } = self;
-        match phase {
-            Phase::Whole(nest) => Ok(State {
-                phase: Phase::Over(nest),
-                open_lists,
-                made,
-            }),
+        match mem::replace(&mut self.phase, Phase::AnyValue) {
+            Phase::Whole(nest) => {
+                self.phase = Phase::Over(nest);
+                Ok(())
+            }
             phase => Err(refused(&phase, place)),
         }
     }
 
     /// After a number, which is too big where its value does not fit.
-    pub fn after_number(self, place: u32, value: u64) -> Result<State, TextFault>
-        ensures { Gives state_of (step (state_of self) (Number place value)) result }
+    pub fn after_number(&mut self, place: u32, value: u64) -> Result<(), TextFault>
+        ensures { Takes (step (state_of self.old) (Number place value)) (state_of self.new) result }
     {
         let Ok(value) = u32::try_from(value) else {
             return Err(TextFault::NumberTooBig(place));
         };
-        let State {
-            phase,
-            open_lists,
-            made,
-        } = self;
-        match phase {
-            Phase::AnyValue | Phase::FirstItem => {
-                put(open_lists, made, Nest::Number { place, value })
-            }
+        match &self.phase {
+            Phase::AnyValue | Phase::FirstItem => self.put(Nest::Number { place, value }),
             Phase::RangeEnd {
                 place: begin,
                 first,
             } => {
+                let (begin, first) = (*begin, *first);
                 let count = (u64::from(value) + 1).saturating_sub(u64::from(first));
-                if u64::from(made) + count > MOST_MADE {
+                if u64::from(self.made) + count > MOST_MADE {
                     return Err(TextFault::BadRange(place));
                 }
-                fill(open_lists, made, begin, first, count as u32)
+                self.fill(begin, first, count as u32)
             }
-            phase => Err(refused(&phase, place)),
+            phase => Err(refused(phase, place)),
+        }
+    }
+
+    /// Gives the innermost list the numbers of a range.
+    fn fill(&mut self, place: u32, first: u32, count: u32) -> Result<(), TextFault>
+        requires numbers { first + count ≤ 2 ^ 32 }
+        requires few { self.old.made + count ≤ 1000000 }
+        ensures { Takes (Ok (at RangeClose (filled (counted place first count) (levels_of self.old.open_lists.items)) (self.old.made + count))) (state_of self.new) result }
+    {
+        self.phase = Phase::RangeClose;
+        self.made += count;
+        match self.open_lists.pop() {
+            None => Ok(()),
+            Some(mut level) => {
+                push_range(&mut level.so_far, place, first, count)?;
+                self.open_lists.push(level)?;
+                Ok(())
+            }
         }
     }
 
@@ -319,4 +266,19 @@ impl State {
             _ => Err(TextFault::Unclosed(place)),
         }
     }
+}
+
+/// Puts the numbers from `first` on, `count` of them, last in the list.
+fn push_range(so_far: &mut Vec<Nest>, place: u32, first: u32, count: u32) -> Result<(), TextFault>
+    requires { first + count ≤ 2 ^ 32 }
+    ensures numbers { OnOk result (map view so_far.new.items ≡ map view so_far.old.items ++ counted place first count) }
+    ensures err { IfErr result (λ fault. fault ≡ TextFault.Memory) }
+{
+    for index in 0..count {
+        so_far.push(Nest::Number {
+            place,
+            value: first + index,
+        })?;
+    }
+    Ok(())
 }

@@ -1,10 +1,10 @@
 -- What contracts see of a source in memory that has bytes under names.
-use Rattle.std.specs.Prelude.{ℕ, Bool, true, false, ◌||◌, List, [], ◌∷◌, option_map, is_none, if◌then◌else◌}
+use Rattle.std.specs.Prelude.{ℕ, Bool, true, false, ◌||◌, List, [], ◌∷◌, is_none, if◌then◌else◌}
 use Rattle.std.specs.Option.{option_or}
 use Rattle.std.specs.declared.option.Option.{Option}
 use Rattle.std.specs.declared.option.Option.TheVariants.{Some, None}
 use Rattle.std.specs.Str.{bytes_eq}
-use Rattle.hap_outside.specs.Causes.{next_fails}
+use Rattle.hap_outside.specs.Causes.{next_count, next_fails}
 
 -- a name, None for standard input, with the bytes that were put under it
 abbrev pub NamedBytes : Type 0
@@ -31,6 +31,14 @@ abbrev pub lookup : List NamedBytes → Option (List ℕ) → Option (List ℕ)
 lookup [] wanted = None
 lookup (entry ∷ entries) wanted =
     option_or (lookup entries wanted) (if same_name entry.0 wanted then Some entry.1 else None)
+
+-- one call more was made
+abbrev pub counted : BytesState → BytesState
+counted source = record source { calls = next_count source.calls }
+
+-- one call more was made, and it failed
+abbrev pub counted_fault : BytesState → BytesState
+counted_fault source = record source { calls = next_count source.calls; faults = next_count source.faults }
 
 -- a begin under the name fails: its number is listed, or nothing was put under the name
 abbrev pub begin_fails : BytesState → Option (List ℕ) → Bool

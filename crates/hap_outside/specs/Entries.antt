@@ -1,5 +1,5 @@
 -- The entries of a source in memory, as it keeps them.
-use Rattle.std.specs.Prelude.{◌≡◌, ◌≤◌, ◌<◌, length, ℕ, zero, suc, List, [], ◌∷◌, drop, map, option_map, string_bytes}
+use Rattle.std.specs.Prelude.{◌≡◌, ◌≤◌, ◌<◌, length, ℕ, zero, suc, List, [], ◌∷◌, drop, option_map, string_bytes}
 use Rattle.std.specs.declared.option.Option.{Option}
 use Rattle.std.specs.declared.option.Option.TheVariants.{Some, None}
 use Rattle.hap_outside.specs.declared.entries.Entry.{Entry}
@@ -22,4 +22,5 @@ left_at (Some place) taken entries = drop taken (bytes_at entries place)
 -- an entry that is open is one of the entries, and no more of it was taken than it has
 abbrev pub IsWithin : List Entry → Option ℕ → ℕ → Type 0
 IsWithin entries open_at taken =
-    (place : ℕ) → open_at ≡ Some place → (place < length entries) × (taken ≤ length (bytes_at entries place))
+    (place : ℕ) → open_at ≡ Some place
+    → (place < length entries) × (taken ≤ length (bytes_at entries place))

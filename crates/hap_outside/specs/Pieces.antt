@@ -1,12 +1,13 @@
 -- The text of the pieces of a line.
-use Rattle.std.specs.Prelude.{ℕ, List, [], ◌∷◌, ◌++◌}
+use Rattle.std.specs.Prelude.{ℕ, List, [], ◌∷◌, ◌++◌, decimal}
 use Rattle.std.specs.Fmt.{signed_decimal}
 use Rattle.hap_outside.specs.declared.pieces.Piece.{Piece}
-use Rattle.hap_outside.specs.declared.pieces.Piece.TheVariants.{Text, Number}
+use Rattle.hap_outside.specs.declared.pieces.Piece.TheVariants.{Text, Count, Number}
 
--- a text stands for itself, and a number for its decimal digits, with a minus sign below 0
+-- a text stands for itself, and a number for its decimal digits, behind a minus sign below 0
 abbrev pub text_of : Piece → List ℕ
 text_of (Text text) = text.now
+text_of (Count value) = decimal value
 text_of (Number value) = signed_decimal value
 
 -- the texts one after another

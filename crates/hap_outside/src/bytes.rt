@@ -1,11 +1,11 @@
 // A source in memory with bytes under names, of which calls can be listed to fail.
-ghost use Rattle.std.specs.Prelude.{◌≡◌, ◌≢◌, ◌↔◌, ◌++◌, ◌∷◌, [], ℕ, List, true, false, option_map, unwrap_or, min, take, drop, length, IsErr, IsTrue, IfOk, OnOk, OnErr};
+ghost use Rattle.std.specs.Prelude.{◌≡◌, ◌≢◌, ◌↔◌, ◌++◌, ◌∷◌, [], ℕ, List, true, false, option_copied, unwrap_or, min, take, drop, length, IsErr, IsTrue, IfOk, OnOk, OnErr};
 ghost use Rattle.std.specs.declared.option.Option.{Option};
 ghost use Rattle.std.specs.declared.option.Option.TheVariants.{Some};
 ghost use Rattle.std.specs.Io.{ReadsAtMost};
 ghost use Rattle.std.specs.Io.KnownBytes.{ReadConsumes};
-ghost use Rattle.hap_outside.specs.BytesState.{lookup, begin_fails};
-ghost use Rattle.hap_outside.specs.Causes.{HasCause, next_count, next_fails};
+ghost use Rattle.hap_outside.specs.BytesState.{lookup, counted, counted_fault, begin_fails};
+ghost use Rattle.hap_outside.specs.Causes.{HasCause, next_fails};
 ghost use Rattle.hap_outside.specs.Stores.{Opens, left_once, none_before};
 
 use crate::copying::copy_front;
@@ -35,15 +35,30 @@ impl Model for Bytes {
 
     ghost Value = { BytesState };
 
-    ghost view = { λ s. record { entries = map named_bytes s.entries.items; listed = s.listed.items; calls = s.calls; faults = s.faults; begun = s.is_begun; rest = left_at s.open_at s.taken s.entries.items } };
+    ghost view = { λ s. record {
+      entries = map named_bytes s.entries.items;
+      listed = s.listed.items;
+      calls = s.calls;
+      faults = s.faults;
+      begun = s.is_begun;
+      rest = left_at s.open_at s.taken s.entries.items;
+    } };
 
-    ghost invariant = { λ s. (IsWithin s.entries.items s.open_at s.taken) × (s.is_begun ≡ false → s.open_at ≡ None) };
+    ghost invariant = { λ s. (IsWithin s.entries.items s.open_at s.taken)
+        × (s.is_begun ≡ false → s.open_at ≡ None) };
 }
 
 impl Bytes {
     /// A source that is not begun, with nothing under any name and no call listed.
     pub fn new(alloc: Global) -> Bytes
-        ensures { result ≡ record { entries = []; listed = []; calls = 0; faults = 0; begun = false; rest = [] } }
+        ensures { result ≡ record {
+          entries = [];
+          listed = [];
+          calls = 0;
+          faults = 0;
+          begun = false;
+          rest = [];
+        } }
     {
         Bytes {
             alloc,
@@ -59,10 +74,13 @@ impl Bytes {
 
     /// Sets what stands under the name, or for standard input. What is left to read stays.
     pub fn put(&mut self, name: Option<&str>, bytes: &[u8]) -> Result<(), AllocError>
-        ensures ok { OnOk result (self.new ≡ record self.old { entries = self.old.entries ++ (option_map (λ s. s.now) name.entry, bytes.now) ∷ [] }) }
+        ensures ok { OnOk result (self.new ≡ record self.old {
+          entries = self.old.entries ++ (option_copied name.entry, bytes.now) ∷ [];
+        }) }
         ensures err { OnErr result (self.new ≡ self.old) }
-        ensures stands { OnOk result (lookup self.new.entries (option_map (λ s. s.now) name.entry) ≡ Some bytes.now) }
-        ensures others { (other : Option (List ℕ)) → other ≢ option_map (λ s. s.now) name.entry → lookup self.new.entries other ≡ lookup self.old.entries other }
+        ensures stands { OnOk result (lookup self.new.entries (option_copied name.entry) ≡ Some bytes.now) }
+        ensures others { (other : Option (List ℕ)) → other ≢ option_copied name.entry
+            → lookup self.new.entries other ≡ lookup self.old.entries other }
     {
         let entry = Entry::new(self.alloc, name, bytes)?;
         self.entries.push(entry)?;
@@ -81,7 +99,7 @@ impl Bytes {
     // Counts a call, and answers whether it is to fail.
     fn count_call(&mut self) -> bool
         ensures answer { result ≡ next_fails self.old.listed self.old.calls }
-        ensures counted { self.new ≡ record self.old { calls = next_count self.old.calls } }
+        ensures counted { self.new ≡ counted self.old }
     {
         self.calls = self.calls.saturating_add(1);
         self.listed.contains(&self.calls)
@@ -101,13 +119,18 @@ impl Source for Bytes {
 
     fn begin(&mut self, name: Option<&str>) -> Result<(), Failed>
         requires { self.old.begun ≡ false }
-        ensures fails { IsErr result ↔ IsTrue (begin_fails self.old (option_map (λ s. s.now) name.entry)) }
-        ensures ok { OnOk result (self.new ≡ record self.old { calls = next_count self.old.calls; begun = true; rest = unwrap_or (lookup self.old.entries (option_map (λ s. s.now) name.entry)) [] }) }
-        ensures err { OnErr result (self.new ≡ record self.old { calls = next_count self.old.calls; faults = next_count self.old.faults; begun = true; rest = [] }) }
+        ensures fails { IsErr result ↔ IsTrue (begin_fails self.old (option_copied name.entry)) }
+        ensures ok { OnOk result (self.new ≡ record (counted self.old) {
+          begun = true;
+          rest = unwrap_or (lookup self.old.entries (option_copied name.entry)) [];
+        }) }
+        ensures err { OnErr result (self.new ≡ record (counted_fault self.old) { begun = true; rest = [] }) }
 
         // As each source.
-        ensures opens { Opens (Some (lookup self.old.entries)) (option_map (λ s. s.now) name.entry) (Some self.new.rest) result }
-        ensures stays { OnErr result (left_once self.new.begun self.new.rest ≡ left_once self.old.begun self.old.rest) }
+        ensures opens { Opens (Some (lookup self.old.entries)) (option_copied name.entry)
+            (Some self.new.rest) result }
+        ensures stays { OnErr result (left_once self.new.begun self.new.rest
+            ≡ left_once self.old.begun self.old.rest) }
         ensures cause { HasCause self.old.faults self.new.faults result }
     {
         let fails = self.count_call();
@@ -127,8 +150,8 @@ impl Source for Bytes {
         ensures fails { IsErr result ↔ IsTrue (next_fails self.old.listed self.old.calls) }
         ensures count { IfOk result (λ n. n ≡ min (length buf.old) (length self.old.rest)) }
         ensures bytes { IfOk result (λ n. buf.new ≡ take n self.old.rest ++ drop n buf.old) }
-        ensures ok { IfOk result (λ n. self.new ≡ record self.old { calls = next_count self.old.calls; rest = drop n self.old.rest }) }
-        ensures err { OnErr result (self.new ≡ record self.old { calls = next_count self.old.calls; faults = next_count self.old.faults }) }
+        ensures ok { IfOk result (λ n. self.new ≡ record (counted self.old) { rest = drop n self.old.rest }) }
+        ensures err { OnErr result (self.new ≡ counted_fault self.old) }
 
         // As each source.
         ensures bound { ReadsAtMost result buf.new }

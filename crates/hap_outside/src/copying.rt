@@ -1,5 +1,5 @@
 // The front of what is left, for a source in memory.
-ghost use Rattle.std.specs.Prelude.{◌≡◌, ◌++◌, ℕ, min, take, drop, length};
+ghost use Rattle.std.specs.Prelude.{◌≡◌, ◌++◌, min, take, drop, length};
 
 /// Copies as many of the bytes as fit to the front of the buffer, and answers how many these are.
 pub fn copy_front(buf: &mut [u8], bytes: &[u8]) -> usize

@@ -1,5 +1,5 @@
 // The entries of a source in memory.
-ghost use Rattle.std.specs.Prelude.{◌≡◌, ◌<◌, ◌+◌, ◌^◌, ℕ, option_map, IfSome, IfOk, length, map};
+ghost use Rattle.std.specs.Prelude.{◌≡◌, ◌<◌, ◌+◌, ◌^◌, option_map, option_copied, IfSome, IfOk, length, map};
 ghost use Rattle.hap_outside.specs.BytesState.{same_name, lookup};
 ghost use Rattle.hap_outside.specs.Entries.{named_bytes, bytes_at, left_at, IsWithin};
 
@@ -14,7 +14,7 @@ pub struct Entry {
 
 impl Entry {
     pub fn new(alloc: Global, name: Option<&str>, bytes: &[u8]) -> Result<Entry, AllocError>
-        ensures { IfOk result (λ entry. named_bytes entry ≡ (option_map (λ s. s.now) name.entry, bytes.now)) }
+        ensures { IfOk result (λ entry. named_bytes entry ≡ (option_copied name.entry, bytes.now)) }
     {
         let name = match name {
             None => None,
@@ -25,7 +25,7 @@ impl Entry {
     }
 
     fn is_under(&self, name: Option<&str>) -> bool
-        ensures { result ≡ same_name (named_bytes self.now).0 (option_map (λ s. s.now) name.entry) }
+        ensures { result ≡ same_name (named_bytes self.now).0 (option_copied name.entry) }
     {
         match &self.name {
             None => name.is_none(),
@@ -51,7 +51,8 @@ pub fn rest_at(entries: &[Entry], open_at: Option<usize>, taken: usize) -> &[u8]
 
 /// The place of the last entry under the name.
 pub fn find(entries: &[Entry], name: Option<&str>) -> Option<usize>
-    ensures found { option_map (bytes_at entries.now) result ≡ lookup (map named_bytes entries.now) (option_map (λ s. s.now) name.entry) }
+    ensures found { option_map (bytes_at entries.now) result
+        ≡ lookup (map named_bytes entries.now) (option_copied name.entry) }
     ensures within { IfSome result (λ place. place < length entries.now) }
 {
     match entries {

@@ -1,5 +1,7 @@
-// The source and the sinks of the host. They tell no bytes.
+// The source and the sinks of the host. They tell what the reader or the writer behind them tells, and
+// those of the host tell no bytes.
 ghost use Rattle.std.specs.Prelude.{◌≡◌, true, false, None};
+ghost use Rattle.hap_outside.specs.HostState.{told_once, none_told_before};
 
 use crate::sink::Sink;
 use crate::source::{Failed, Source};
@@ -26,17 +28,21 @@ enum Origin<I, F> {
 }
 
 impl<R: Files + Input + Drop> Model for HostSource<R> {
-    ghost use Rattle.hap_outside.specs.HostState.{HostState};
+    ghost use Rattle.hap_outside.specs.HostState.{HostState, origin_rest};
 
     ghost Value = { HostState };
 
-    ghost view = { λ s. record { begun = s.is_begun; faults = s.faults } };
+    ghost view = { λ s. record {
+      begun = s.is_begun;
+      rest = origin_rest R.Reader.remaining R.File.remaining s.origin;
+      faults = s.faults;
+    } };
 }
 
 impl<R: Files + Input + Drop> HostSource<R> {
     /// A source that is not begun, and opens nothing before it is.
     pub fn new(runtime: R) -> HostSource<R>
-        ensures { result ≡ record { begun = false; faults = 0 } }
+        ensures { result ≡ record { begun = false; rest = None; faults = 0 } }
     {
         HostSource {
             runtime,
@@ -50,16 +56,17 @@ impl<R: Files + Input + Drop> HostSource<R> {
 impl<R: Files + Input + Drop> Source for HostSource<R> {
     ghost store = { λ _. None };
 
-    ghost left = { λ _. None };
+    ghost left = { λ s. told_once s.begun s.rest };
 
     ghost begun = { λ s. s.begun };
 
     ghost faults = { λ s. s.faults };
 
-    ghost none_before = { λ s h. tt };
+    ghost none_before = { λ s h. none_told_before s.begun s.rest h };
 
     fn begin(&mut self, name: Option<&str>) -> Result<(), Failed> {
         self.is_begun = true;
+        self.origin = Origin::Closed;
         match name {
             None => {
                 self.origin = Origin::Standard(self.runtime.reader());
@@ -102,26 +109,26 @@ pub struct HostSink<W: Write + Drop> {
 }
 
 impl<W: Write + Drop> Model for HostSink<W> {
-    ghost use Rattle.std.specs.Prelude.{ℕ};
+    ghost use Rattle.hap_outside.specs.HostState.{WriterState};
 
-    ghost Value = { ℕ };
+    ghost Value = { WriterState };
 
-    ghost view = { λ s. s.faults };
+    ghost view = { λ s. record { written = W.contents s.writer; faults = s.faults } };
 }
 
 impl<W: Write + Drop> HostSink<W> {
     /// A sink that wrote nothing and met no fault.
     pub fn new(writer: W) -> HostSink<W>
-        ensures { result ≡ 0 }
+        ensures { result ≡ record { written = W.contents writer; faults = 0 } }
     {
         HostSink { writer, faults: 0 }
     }
 }
 
 impl<W: Write + Drop> Sink for HostSink<W> {
-    ghost written = { λ _. None };
+    ghost written = { λ s. s.written };
 
-    ghost faults = { λ s. s };
+    ghost faults = { λ s. s.faults };
 
     fn write(&mut self, piece: &[u8]) -> Result<usize, Failed> {
         match self.writer.write(piece) {

@@ -1,5 +1,5 @@
 // Sinks in memory.
-ghost use Rattle.std.specs.Prelude.{◌≡◌, ◌<◌, ◌++◌, ◌∷◌, [], ℕ, length, min, take, IsOk, IsErr, IsTrue, ◌↔◌, IfOk, OnOk, OnErr, None};
+ghost use Rattle.std.specs.Prelude.{◌≡◌, ◌<◌, ◌++◌, ◌∷◌, [], length, min, take, IsErr, IsTrue, ◌↔◌, IfOk, OnOk, OnErr, None};
 ghost use Rattle.std.specs.declared.option.Option.TheVariants.{Some};
 ghost use Rattle.std.specs.Io.{WritesAtMost};
 ghost use Rattle.std.specs.Io.KnownBytes.{WriteAppends};
@@ -28,7 +28,13 @@ impl Model for Paper {
 
     ghost Value = { PaperState };
 
-    ghost view = { λ s. record { bytes = s.bytes.items; room = s.room; listed = s.listed.items; calls = s.calls; faults = s.faults } };
+    ghost view = { λ s. record {
+      bytes = s.bytes.items;
+      room = s.room;
+      listed = s.listed.items;
+      calls = s.calls;
+      faults = s.faults;
+    } };
 
     ghost invariant = { λ s. (length s.bytes.items ≤ s.room) × (s.room ≤ vec_capacity s.bytes) };
 }
@@ -36,7 +42,13 @@ impl Model for Paper {
 impl Paper {
     /// A sink that took nothing, with room for so many bytes.
     pub fn new(alloc: Global, room: usize) -> Result<Paper, AllocError>
-        ensures { IfOk result (λ paper. paper ≡ record { bytes = []; room = room; listed = []; calls = 0; faults = 0 }) }
+        ensures { IfOk result (λ paper. paper ≡ record {
+          bytes = [];
+          room = room;
+          listed = [];
+          calls = 0;
+          faults = 0;
+        }) }
     {
         Ok(Paper {
             bytes: Vec::with_capacity(alloc, room)?,
@@ -72,8 +84,14 @@ impl Sink for Paper {
     fn write(&mut self, piece: &[u8]) -> Result<usize, Failed>
         ensures fails { IsErr result ↔ IsTrue (write_fails self.old piece.now) }
         ensures count { IfOk result (λ n. n ≡ min (length piece.now) (room_left self.old)) }
-        ensures ok { IfOk result (λ n. self.new ≡ record self.old { bytes = self.old.bytes ++ take n piece.now; calls = next_count self.old.calls }) }
-        ensures err { OnErr result (self.new ≡ record self.old { calls = next_count self.old.calls; faults = next_count self.old.faults }) }
+        ensures ok { IfOk result (λ n. self.new ≡ record self.old {
+          bytes = self.old.bytes ++ take n piece.now;
+          calls = next_count self.old.calls;
+        }) }
+        ensures err { OnErr result (self.new ≡ record self.old {
+          calls = next_count self.old.calls;
+          faults = next_count self.old.faults;
+        }) }
 
         // As each sink.
         ensures bound { WritesAtMost result piece.now }
@@ -98,7 +116,10 @@ impl Sink for Paper {
 pub struct Tally;
 
 impl Tally {
-    pub fn new() -> Tally {
+    /// A sink that took nothing.
+    pub fn new() -> Tally
+        ensures { result ≡ record {} }
+    {
         Tally
     }
 }

@@ -1,5 +1,5 @@
 // A sink of bytes by what it means, and the calls that write to it.
-ghost use Rattle.std.specs.Prelude.{◌≡◌, ◌≤◌, ◌<◌, ◌+◌, List, ℕ, length, IfOk, OnOk, OnErr};
+ghost use Rattle.std.specs.Prelude.{◌<◌, ◌+◌, List, ℕ, length, IfOk};
 ghost use Rattle.std.specs.Fmt.{signed_decimal};
 ghost use Rattle.std.specs.declared.option.Option.{Option};
 ghost use Rattle.std.specs.Io.{WritesAtMost};
@@ -34,7 +34,8 @@ pub fn write_all<K: Sink>(sink: &mut K, piece: &[u8]) -> Result<(), Failed>
 {
     let mut done = 0;
     'turns: while done < piece.len() {
-        done += sink.write(&piece[done..])?;
+        let count = sink.write(&piece[done..])?;
+        done += count;
     }
     Ok(())
 }

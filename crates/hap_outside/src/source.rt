@@ -1,5 +1,5 @@
 // A source of bytes by what it means, and the call that reads all of it.
-ghost use Rattle.std.specs.Prelude.{◌≡◌, ◌≤◌, ◌<◌, ◌+◌, List, ℕ, Bool, true, false, length, IfOk, OnOk, OnErr, IfSome, IsErrOf, option_map};
+ghost use Rattle.std.specs.Prelude.{◌≡◌, ◌≤◌, ◌<◌, ◌+◌, List, ℕ, Bool, true, false, length, IfOk, OnOk, OnErr, IsErrOf, option_copied};
 ghost use Rattle.std.specs.declared.option.Option.{Option};
 ghost use Rattle.std.specs.Io.{ReadsAtMost};
 ghost use Rattle.std.specs.Io.KnownBytes.{ReadConsumes, Consumes, IsAtEnd};
@@ -43,7 +43,7 @@ pub trait Source {
         requires { begun self.old ≡ false }
         ensures begun { begun self.new ≡ true }
         ensures store { store self.new ≡ store self.old }
-        ensures opens { Opens (store self.old) (option_map (λ s. s.now) name.entry) (left self.new) result }
+        ensures opens { Opens (store self.old) (option_copied name.entry) (left self.new) result }
         ensures stays { OnErr result (left self.new ≡ left self.old) }
         ensures cause { HasCause (faults self.old) (faults self.new) result };
 
@@ -75,8 +75,12 @@ pub fn read_all<S: Source>(alloc: Global, source: &mut S, limit: usize) -> Resul
     ensures end { OnOk result (IsAtEnd (S.left source.new)) }
     ensures within { IfOk result (λ bytes. length bytes.items ≤ limit) }
 
-    // One byte more than the limit was read.
-    ensures too_long { IsErrOf result ReadAll.TooLong → (bytes : List ℕ) × Consumes (S.left source.old) (S.left source.new) bytes × (length bytes ≡ limit + 1) }
+    // One byte more than the limit was read, and no more than the limit before a fault.
+    ensures too_long { IsErrOf result ReadAll.TooLong → (bytes : List ℕ)
+        × Consumes (S.left source.old) (S.left source.new) bytes × (length bytes ≡ limit + 1) }
+
+    ensures stopped { IsErrOf result ReadAll.Fault → (bytes : List ℕ)
+        × Consumes (S.left source.old) (S.left source.new) bytes × (length bytes ≤ limit) }
 
     // A fault comes only where the count rose, and always where it is greater after than before.
     ensures fault { IsErrOf result ReadAll.Fault → Rose (S.faults source.old) (S.faults source.new) }

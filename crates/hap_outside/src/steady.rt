@@ -1,7 +1,5 @@
 // A source in memory that never fails.
-ghost use Rattle.std.specs.Prelude.{◌≡◌, [], ℕ, false, true, IsOk, IfOk, OnOk, OnErr, length, take, drop, ◌++◌, min, option_map};
-ghost use Rattle.std.specs.Io.{ReadsAtMost};
-ghost use Rattle.std.specs.Io.KnownBytes.{ReadConsumes};
+ghost use Rattle.std.specs.Prelude.{◌≡◌, false, true, IsOk, IfOk, length, take, drop, ◌++◌, min};
 ghost use Rattle.std.specs.declared.option.Option.TheVariants.{Some};
 ghost use Rattle.hap_outside.specs.Stores.{left_once, none_before};
 
@@ -24,7 +22,11 @@ impl Model for Steady {
 
     ghost Value = { SteadyState };
 
-    ghost view = { λ s. record { bytes = s.bytes.items; begun = s.is_begun; rest = drop s.taken s.bytes.items } };
+    ghost view = { λ s. record {
+      bytes = s.bytes.items;
+      begun = s.is_begun;
+      rest = drop s.taken s.bytes.items;
+    } };
 
     ghost invariant = { λ s. s.taken ≤ length s.bytes.items };
 }
@@ -32,7 +34,11 @@ impl Model for Steady {
 impl Steady {
     /// A source that is not begun, with these bytes under each name.
     pub fn new(alloc: Global, bytes: &[u8]) -> Result<Steady, AllocError>
-        ensures { IfOk result (λ source. source ≡ record { bytes = bytes.now; begun = false; rest = bytes.now }) }
+        ensures { IfOk result (λ source. source ≡ record {
+          bytes = bytes.now;
+          begun = false;
+          rest = bytes.now;
+        }) }
     {
         Ok(Steady {
             bytes: Vec::from_slice(alloc, bytes)?,

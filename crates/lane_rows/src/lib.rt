@@ -17,8 +17,47 @@ pub fn add_scaled(target: &mut [u8], source: &[u8], factor: u8, p: u8)
     requires source { All (λ x. x < p) source.now }
     ensures { target.new ≡ added p factor target.old source.now }
 {
+    match p {
+        2 => add_scaled_by::<2>(target, source, factor),
+        3 => add_scaled_by::<3>(target, source, factor),
+        5 => add_scaled_by::<5>(target, source, factor),
+        7 => add_scaled_by::<7>(target, source, factor),
+        11 => add_scaled_by::<11>(target, source, factor),
+        13 => add_scaled_by::<13>(target, source, factor),
+        _ => add_scaled_plain(target, source, factor, p),
+    }
+}
+
+/// The same for any small modulus.
+fn add_scaled_plain(target: &mut [u8], source: &[u8], factor: u8, p: u8)
+    requires modulus { 1 < p }
+    requires small { p ≤ 13 }
+    requires factor { factor < p }
+    requires lengths { length source.now ≡ length target.old }
+    requires target { All (λ x. x < p) target.old }
+    requires source { All (λ x. x < p) source.now }
+    ensures { target.new ≡ added p factor target.old source.now }
+{
+    for place in 0..target.len() {
+        target[place] = (target[place] + factor * source[place]) % p;
+    }
+}
+
+/// The same for a modulus that the compiler knows, so that no division is left in the loop. It is a
+/// function of its own when it runs, since inside of a loop over rows the compiler would not go
+/// through it in lanes.
+#[inline(never)]
+fn add_scaled_by<const P: u8>(target: &mut [u8], source: &[u8], factor: u8)
+    requires modulus { 1 < P }
+    requires small { P ≤ 13 }
+    requires factor { factor < P }
+    requires lengths { length source.now ≡ length target.old }
+    requires target { All (λ x. x < P) target.old }
+    requires source { All (λ x. x < P) source.now }
+    ensures { target.new ≡ added P factor target.old source.now }
+{
     for i in 0..target.len() {
-        target[i] = (target[i] + factor * source[i]) % p;
+        target[i] = (target[i] + factor * source[i]) % P;
     }
 }
 

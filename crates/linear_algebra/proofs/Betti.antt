@@ -101,26 +101,39 @@ module _ (k : Ops) (f : IsField k) where
     pub same_row : (i : ℕ) → i < rank → row_at (take rank after) i ≡ row_at after i
     same_row i lt = get_or-take rank after i [] lt
 
-    pub pivots_independent : IsIndependent k cols (take rank after)
-    pivots_independent cs v e =
+    -- the entry of a combination at a pivot is the coefficient of its row
+    pub pivot_coefficient : (cs : List ℕ) (i : ℕ) → IsVector k (length (take rank after)) cs → i < rank → get_or (combination k cols cs (take rank after)) (get_or h.pivots i 0) 0 ≡ get_or cs i 0
+    pivot_coefficient cs i v li =
         let r : IsReducedBelow cols after h.pivots = h.reduced in
         let lp : length h.pivots ≡ rank = h.rank_is in
         let lr : length (take rank after) ≡ rank = long_pivots in
         let lf : rank ≤ length after = few in
         let lc : length cs ≡ length (take rank after) = v.long in
         let m : IsMatrix k cols (take rank after) = all_take (IsVector k cols) rank after h.matrix in
-        ext_get_or 0 cs (replicate (length (take rank after)) 0) (v.long ∙ sym (length-replicate (length (take rank after)) 0))
-        (λ i lt.
-        let li : i < rank = omega arith in
         let p : ℕ = get_or h.pivots i 0 in
         let pc : p < cols = r.within i (omega arith) in
         let lcol : length (column p (take rank after)) ≡ length (take rank after) = length-column (take rank after) p in
         let at : (j : ℕ) → j < rank → get_or (column p (take rank after)) j 0 ≡ entry after j p =
         λ j lj. column_entry (take rank after) p j (omega arith) ∙ ap (λ (w : List ℕ). get_or w p 0) (same_row j lj) in
-        let d : dot k cs (column p (take rank after)) ≡ get_or cs i 0 =
-        dot_unit cs (column p (take rank after)) i v.elements lt (omega arith) (at i li ∙ r.one i (omega arith))
-        (λ j lj ne. at j (omega arith) ∙ r.alone i j (omega arith) (omega arith) ne) in
-        sym d ∙ (sym (entry_combination k f cols p cs (take rank after) m pc) ∙ (ap (λ (w : List ℕ). get_or w p 0) e ∙ (get_or-replicate cols p 0 0 pc ∙ sym (get_or-replicate (length (take rank after)) i 0 0 (omega arith))))))
+        entry_combination k f cols p cs (take rank after) m pc
+        ∙ dot_unit cs (column p (take rank after)) i v.elements (omega arith) (omega arith) (at i li ∙ r.one i (omega arith))
+        (λ j lj ne. at j (omega arith) ∙ r.alone i j (omega arith) (omega arith) ne)
+
+    -- only zero coefficients where the combination is zero at the pivots
+    zero_coefficients : (cs : List ℕ) → IsVector k (length (take rank after)) cs → ((i : ℕ) → i < rank → get_or (combination k cols cs (take rank after)) (get_or h.pivots i 0) 0 ≡ 0) → cs ≡ replicate (length (take rank after)) 0
+    zero_coefficients cs v z =
+        let lr : length (take rank after) ≡ rank = long_pivots in
+        let lc : length cs ≡ length (take rank after) = v.long in
+        ext_get_or 0 cs (replicate (length (take rank after)) 0) (v.long ∙ sym (length-replicate (length (take rank after)) 0))
+        (λ i lt.
+        let li : i < rank = omega arith in
+        sym (pivot_coefficient cs i v li) ∙ (z i li ∙ sym (get_or-replicate (length (take rank after)) i 0 0 (omega arith))))
+
+    pub pivots_independent : IsIndependent k cols (take rank after)
+    pivots_independent cs v e =
+        let lp : length h.pivots ≡ rank = h.rank_is in
+        zero_coefficients cs v
+        (λ i li. ap (λ (w : List ℕ). get_or w (get_or h.pivots i 0) 0) e ∙ get_or-replicate cols (get_or h.pivots i 0) 0 0 (h.reduced.within i (omega arith)))
 
     pub pivots_span : AllByRecursion (InSpan k cols (take rank after)) after
     pivots_span =
@@ -143,6 +156,15 @@ module _ (k : Ops) (f : IsField k) where
               subst (InSpan k cols (take rank after)) (sym z ∙ get_or_default after i [] d lt) (span_zero k f cols (take rank after) m)
         ])
 
+    -- what is in the span and zero at the pivots is zero
+    pub zero_at_pivots : (u : List ℕ) → InSpan k cols before u → ((i : ℕ) → i < rank → get_or u (get_or h.pivots i 0) 0 ≡ 0) → u ≡ replicate cols 0
+    zero_at_pivots u p z =
+        let m : IsMatrix k cols (take rank after) = all_take (IsVector k cols) rank after h.matrix in
+        let q : InSpan k cols (take rank after) u = in_span_trans cols after (take rank after) u m pivots_span (h.span.there u p) in
+        let none : q.coefficients ≡ replicate (length (take rank after)) 0 =
+        zero_coefficients q.coefficients q.vector (λ i li. ap (λ (w : List ℕ). get_or w (get_or h.pivots i 0) 0) q.is ∙ z i li) in
+        sym q.is ∙ (ap (λ (cs : List ℕ). combination k cols cs (take rank after)) none ∙ combination-zeros k f cols (length (take rank after)) (take rank after) m)
+
     pub rank_is_dimension : (us : List (List ℕ)) → IsMatrix k cols us → IsIndependent k cols us → AllByRecursion (InSpan k cols us) before → AllByRecursion (InSpan k cols before) us → length us ≡ rank
     rank_is_dimension us a ind spans inside =
         let m : IsMatrix k cols (take rank after) = all_take (IsVector k cols) rank after h.matrix in
@@ -157,7 +179,7 @@ module _ (k : Ops) (f : IsField k) where
         omega arith
 
   -- a combination of vectors and of others
-  regroup : (c : ℕ) (gs xs zs : List ℕ) → length gs ≡ length zs → length xs ≡ length zs → plus_scaled k c (plus_scaled k 1 gs xs) zs ≡ plus_scaled k 1 gs (plus_scaled k c xs zs)
+  pub regroup : (c : ℕ) (gs xs zs : List ℕ) → length gs ≡ length zs → length xs ≡ length zs → plus_scaled k c (plus_scaled k 1 gs xs) zs ≡ plus_scaled k 1 gs (plus_scaled k c xs zs)
   regroup c [] xs zs a b = refl
   regroup c (g ∷ gs) [] zs a b = refl
   regroup c (g ∷ gs) (x ∷ xs) [] a b = absurd (omega arith)

@@ -11,3 +11,6 @@ pub mod Bump
 pub mod Triangles
 pub mod Linear
 pub mod Laws
+pub mod Marks
+pub mod Halves
+pub mod History

@@ -1,6 +1,7 @@
 use Rattle.std.proofs.Common.{◌≡◌, ℕ, suc, ◌+◌, ◌<◌, inl, inr, List, [], ◌∷◌, length, replicate, get_or, refl, ap, sym, ◌∙◌, arith, subst}
 use Rattle.std.specs.List.{AllByRecursion}
 use Rattle.std.proofs.lemmas.Simd.{length-replicate}
+use Rattle.linear_algebra.specs.Marks.{shifted}
 use Rattle.small_field.specs.Field.{Ops, IsField}
 use Rattle.linear_algebra.specs.Vectors.{AreElements, IsVector, IsMatrix, plus_scaled, combination, InSpan, IsIndependent, IsInKernel}
 use Rattle.linear_algebra.proofs.Dot.{zero_below, add_zero, mul_zero, mul_neg}
@@ -8,11 +9,6 @@ use Rattle.linear_algebra.proofs.Solve.{rest}
 use Rattle.linear_algebra.proofs.Span.{combination-vector, combination-zeros, combination-plus, plus_scaled-vector, zero_times, zeros-elements, taken_back, span_rows, span_within, span_all_more}
 use Rattle.linear_algebra.proofs.Decide.{neg_neg, empty_is}
 use Rattle.linear_algebra.proofs.Dimension.{in_span_or_not}
-
--- 0 before each
-abbrev pub shifted : List (List ℕ) → List (List ℕ)
-shifted [] = []
-shifted (z ∷ zs) = (0 ∷ z) ∷ shifted zs
 
 pub length-shifted : (zs : List (List ℕ)) → length (shifted zs) ≡ length zs
 length-shifted [] = refl
@@ -33,11 +29,11 @@ pub record RankSplit (k : Ops) (n : ℕ) (rows : List (List ℕ)) : Type 0 where
   pub count : length us + length zs ≡ length rows
 
 module _ (k : Ops) (f : IsField k) where
-  shifted_matrix : (n : ℕ) (zs : List (List ℕ)) → IsMatrix k n zs → IsMatrix k (suc n) (shifted zs)
+  pub shifted_matrix : (n : ℕ) (zs : List (List ℕ)) → IsMatrix k n zs → IsMatrix k (suc n) (shifted zs)
   shifted_matrix n [] a = tt
   shifted_matrix n (z ∷ zs) a = (record { long = ap suc a.0.long; elements = (zero_below k f, a.0.elements) }, shifted_matrix n zs a.1)
 
-  combination-shifted : (n : ℕ) (bs : List ℕ) (zs : List (List ℕ)) → combination k (suc n) bs (shifted zs) ≡ 0 ∷ combination k n bs zs
+  pub combination-shifted : (n : ℕ) (bs : List ℕ) (zs : List (List ℕ)) → combination k (suc n) bs (shifted zs) ≡ 0 ∷ combination k n bs zs
   combination-shifted n [] zs = refl
   combination-shifted n (b ∷ bs) [] = refl
   combination-shifted n (b ∷ bs) (z ∷ zs) =

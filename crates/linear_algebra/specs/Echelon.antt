@@ -1,4 +1,5 @@
-use Rattle.std.specs.Prelude.{◌≡◌, ◌≢◌, ℕ, ◌<◌, ◌≤◌, List, length, slice_index}
+use Rattle.std.specs.Prelude.{◌≡◌, ◌≢◌, ℕ, ◌<◌, ◌≤◌, ◌==◌, Bool, not, List, length, count_by, slice_index}
+use Rattle.std.specs.List.{list_any}
 use Rattle.small_field.specs.Field.{Ops}
 use Rattle.linear_algebra.specs.Vectors.{IsMatrix, SameSpan, entry}
 
@@ -20,3 +21,16 @@ pub record IsReducedTo (k : Ops) (cols rank col : ℕ) (before after : List (Lis
   pub pivots : List ℕ
   pub rank_is : length pivots ≡ rank
   pub reduced : IsReducedBelow col after pivots
+
+-- some entry is not zero
+abbrev pub is_nonzero : List ℕ → Bool
+is_nonzero row = list_any (λ x. not (x == 0)) row
+
+-- how many rows are not zero: in a reduced form, the rank
+abbrev pub rank_of : List (List ℕ) → ℕ
+rank_of rows = count_by is_nonzero rows
+
+-- rows of n entries in reduced row echelon form
+pub record IsReduced (n : ℕ) (rows : List (List ℕ)) : Type 0 where
+  pub pivots : List ℕ
+  pub reduced : IsReducedBelow n rows pivots

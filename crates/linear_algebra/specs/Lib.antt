@@ -3,4 +3,5 @@ pub mod Echelon
 pub mod Triangle
 pub mod Linear
 pub mod Betti
+pub mod Marks
 pub mod Laws

@@ -94,3 +94,16 @@ pub record IsDependent (k : Ops) (n : ℕ) (rows : List (List ℕ)) : Type 0 whe
   pub vector : IsVector k (length rows) coefficients
   pub nonzero : IsNonzero coefficients
   pub zero : (j : ℕ) → j < n → dot k coefficients (column j rows) ≡ 0
+
+-- a basis of the coefficients of the rows that give zero
+pub record IsKernelBasis (k : Ops) (m : ℕ) (rows zs : List (List ℕ)) : Type 0 where
+  pub matrix : IsMatrix k (length rows) zs
+  pub inside : AllByRecursion (IsInKernel k m rows) zs
+  pub independent : IsIndependent k (length rows) zs
+  pub complete : (x : List ℕ) → IsInKernel k m rows x → InSpan k (length rows) zs x
+
+-- independent coefficients that give each of the rows `after` as a combination of `rows`
+pub record IsHistory (k : Ops) (n : ℕ) (rows after history : List (List ℕ)) : Type 0 where
+  pub matrix : IsMatrix k (length rows) history
+  pub gives : map (λ cs. combination k n cs rows) history ≡ after
+  pub independent : IsIndependent k (length rows) history

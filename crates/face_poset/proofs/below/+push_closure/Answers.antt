@@ -1,4 +1,4 @@
-use Rattle.std.proofs.Common.{◌≡◌, ◌≢◌, ◌<◌, ◌≤◌, ◌+◌, ◌-◌, ◌++◌, ℕ, List, All, length, map, ap, sym, ◌∙◌, subst, arith, append_assoc}
+use Rattle.std.proofs.Common.{◌≡◌, ◌≤◌, ◌+◌, ◌-◌, ◌++◌, ℕ, List, All, length, map, ap, sym, ◌∙◌, subst, arith, append_assoc}
 use Rattle.std.proofs.lemmas.List.{length-append}
 use Rattle.std.proofs.lemmas.Result.{on_ok_weaker}
 use Rattle.face_poset.specs.declared.cells.Cell.{Cell}
@@ -13,10 +13,19 @@ push_closure-requires t c =
     let d : ℕ = c.args.dim - 1 in
     let is : c.deref.result.now ≡ facets_of_all space d c.args.cells.now = c.deref.ensures.value ∙ c.in_ok-facets.ensures in
     let room : length c.args.list.now + length (closure space d (facets_of_all space d c.args.cells.now)) + length c.args.cells.now ≤ 4294967295 =
-        add_closure space c.args.dim c.args.cells.now c.args.list.now c.if-dim-eq0.false c.requires.room in
-    (omega arith, (c.requires.valid, (omega (arith, c.requires.dim), (
-    subst (λ (xs : List ℕ). All (λ n. (1 ≤ n) × (n ≤ count space d)) xs) (sym is) (facets_within space d c.args.cells.now),
-    subst (λ (xs : List ℕ). length c.args.list.now + length (closure space d xs) ≤ 4294967295) (sym is) (omega arith)))))
+    add_closure space c.args.dim c.args.cells.now c.args.list.now c.if-dim-eq0.false c.requires.room in (
+      omega arith,
+      (
+        c.requires.valid,
+        (
+          omega (arith, c.requires.dim),
+          (
+            subst (λ (xs : List ℕ). All (λ n. (1 ≤ n) × (n ≤ count space d)) xs) (sym is) (facets_within space d c.args.cells.now),
+            subst (λ (xs : List ℕ). length c.args.list.now + length (closure space d xs) ≤ 4294967295) (sym is) (omega arith),
+          ),
+        ),
+      ),
+    )
 
 pub push_cells-requires-2 : goal.push_cells-requires-2
 push_cells-requires-2 t c =

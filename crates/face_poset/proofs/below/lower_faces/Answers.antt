@@ -1,9 +1,8 @@
-use Rattle.std.proofs.Common.{◌≡◌, ◌<◌, ◌≤◌, ◌+◌, ◌-◌, ◌++◌, ◌∷◌, [], ℕ, List, length, take, get_or, sym, ◌∙◌, ap, arith, All}
+use Rattle.std.proofs.Common.{◌≡◌, ◌<◌, ◌+◌, ◌-◌, ◌++◌, ◌∷◌, [], ℕ, List, length, take, get_or, sym, ◌∙◌, ap, arith}
 use Rattle.std.specs.List.{flat_map}
 use Rattle.std.proofs.lemmas.List.{take_more, take_all, append-nil, get_or_default}
 use Rattle.std.proofs.lemmas.List.Concat.{flat_map-append}
-use Rattle.face_poset.specs.Poset.{layer, count, facets_of, IsSpace}
-use Rattle.face_poset.specs.Below.{facets_of_all}
+use Rattle.face_poset.specs.Poset.{layer, facets_of}
 use Rattle.face_poset.proofs.BelowLemmas.{sorted_facets}
 use Rattle.face_poset.proofs.below.lower_faces.Goals as goal
 

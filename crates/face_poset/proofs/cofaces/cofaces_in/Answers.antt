@@ -1,15 +1,15 @@
-use Rattle.std.proofs.Common.{◌≡◌, ◌≢◌, ◌<◌, ◌≤◌, ◌+◌, ◌-◌, ◌++◌, ◌∷◌, [], ℕ, zero, suc, Bool, true, false, List, cond, eqb, length, take, get_or, map, set, refl, sym, ◌∙◌, ap, arith, subst, All}
-use Rattle.std.specs.List.{concat, range_with_len}
+use Rattle.std.proofs.Common.{◌≡◌, ◌<◌, ◌≤◌, ◌+◌, ◌-◌, ◌++◌, ◌∷◌, [], ℕ, true, List, cond, length, take, get_or, map, refl, sym, ◌∙◌, ap, arith, subst, All}
+use Rattle.std.specs.List.{concat}
 use Rattle.std.specs.List.Sorted.{IsStrictlyIncreasing}
-use Rattle.std.proofs.lemmas.List.{get_or_default, same_lists, take_more, take_all, length-take-le, take-append-drop}
+use Rattle.std.proofs.lemmas.List.{get_or_default, same_lists, take_more, take_all, length-take-le}
 use Rattle.std.proofs.lemmas.List.FromFn.{length-map-range_with_len, get_or-map-range_with_len}
-use Rattle.std.proofs.lemmas.List.Elements.{All-nil, All-append, All-head, All-tail}
+use Rattle.std.proofs.lemmas.List.Elements.{All-nil, All-append, All-tail}
 use Rattle.face_poset.specs.Words.{holds, upto}
 use Rattle.face_poset.specs.Rooms.{AllGain}
 use Rattle.face_poset.specs.Poset.{cells_with}
 use Rattle.face_poset.specs.Cofaces.{IsRising}
 use Rattle.face_poset.specs.Cofaces.{coface_lists}
-use Rattle.face_poset.proofs.Members.{holds-before, holds-from}
+use Rattle.face_poset.proofs.Members.{holds-from}
 use Rattle.face_poset.proofs.Counting.{times, times-concat, room_left, cells_with-push}
 use Rattle.face_poset.proofs.cofaces.cofaces_in.Goals as goal
 
@@ -27,17 +27,17 @@ more most cells i value old new lt is e long h =
     let m : length (coface_lists most (take (i + 1) cells)) ≡ most = length-map-range_with_len (cells_with (take (i + 1) cells)) 1 most in
     let short : length (take i cells) ≡ i = length-take-le i cells (omega arith) in
     same_lists new (coface_lists most (take (i + 1) cells)) (long ∙ (n ∙ sym m)) (λ k d l.
-        let lk : k < most = omega arith in
-        let was : get_or old k [] ≡ cells_with (take i cells) (k + 1) = ap (λ (ps : List (List ℕ)). get_or ps k []) e ∙ get_or-map-range_with_len (cells_with (take i cells)) 1 most k (k + 1) [] lk (omega arith) in
-        let push : cells_with (take (i + 1) cells) (k + 1) ≡ cells_with (take i cells) (k + 1) ++ cond (holds c (k + 1)) ((length (take i cells) + 1) ∷ []) [] =
-            ap (λ (cs : List (List ℕ)). cells_with cs (k + 1)) (take_more cells i [] lt) ∙ cells_with-push (take i cells) c (k + 1) in
-        let number : length (take i cells) + 1 ≡ value = omega arith in
-        get_or_default new k d [] l
-        ∙ (h k (omega arith)
-        ∙ (ap (λ (ps : List ℕ). ps ++ cond (holds c (k + 1)) (value ∷ []) []) was
-        ∙ (ap (λ (v : ℕ). cells_with (take i cells) (k + 1) ++ cond (holds c (k + 1)) (v ∷ []) []) (sym number)
-        ∙ (sym push
-        ∙ sym (get_or-map-range_with_len (cells_with (take (i + 1) cells)) 1 most k (k + 1) d lk (omega arith)))))))
+    let lk : k < most = omega arith in
+    let was : get_or old k [] ≡ cells_with (take i cells) (k + 1) = ap (λ (ps : List (List ℕ)). get_or ps k []) e ∙ get_or-map-range_with_len (cells_with (take i cells)) 1 most k (k + 1) [] lk (omega arith) in
+    let push : cells_with (take (i + 1) cells) (k + 1) ≡ cells_with (take i cells) (k + 1) ++ cond (holds c (k + 1)) ((length (take i cells) + 1) ∷ []) [] =
+    ap (λ (cs : List (List ℕ)). cells_with cs (k + 1)) (take_more cells i [] lt) ∙ cells_with-push (take i cells) c (k + 1) in
+    let number : length (take i cells) + 1 ≡ value = omega arith in
+    get_or_default new k d [] l
+    ∙ (h k (omega arith)
+    ∙ (ap (λ (ps : List ℕ). ps ++ cond (holds c (k + 1)) (value ∷ []) []) was
+    ∙ (ap (λ (v : ℕ). cells_with (take i cells) (k + 1) ++ cond (holds c (k + 1)) (v ∷ []) []) (sym number)
+    ∙ (sym push
+    ∙ sym (get_or-map-range_with_len (cells_with (take (i + 1) cells)) 1 most k (k + 1) d lk (omega arith)))))))
 
 empties : (F : ℕ → ℕ) (xs : List ℕ) → map {A = ℕ} {B = List ℕ} (λ _. []) (map F xs) ≡ map {A = ℕ} {B = List ℕ} (λ _. []) xs
 empties F [] = refl
@@ -96,7 +96,7 @@ loop-index-preserved c =
     record {
       rooms = c.put_all.ensures.rooms ∙ c.loop-index.invariant.rooms;
       parts = more c.args.most c.args.cells.now c.loop-index.index (c.loop-index.index + 1) c.loop-index.slots.parts c.put_all.new.slots.parts (omega (arith, c.len-index-end.ensures)) refl
-        c.loop-index.invariant.parts c.put_all.ensures.len (subst (λ (xs : List ℕ). AllGain xs (c.loop-index.index + 1) c.loop-index.slots.parts c.put_all.new.slots.parts) c.get.ensures c.put_all.ensures.parts);
+          c.loop-index.invariant.parts c.put_all.ensures.len (subst (λ (xs : List ℕ). AllGain xs (c.loop-index.index + 1) c.loop-index.slots.parts c.put_all.new.slots.parts) c.get.ensures c.put_all.ensures.parts);
     }
 
 pub finish-requires : goal.finish-requires

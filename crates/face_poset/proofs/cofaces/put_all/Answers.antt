@@ -1,11 +1,10 @@
-use Rattle.std.proofs.Common.{◌≡◌, ◌≢◌, ◌<◌, ◌≤◌, ◌+◌, ◌-◌, ◌++◌, ◌∷◌, [], ℕ, zero, suc, Bool, true, false, List, cond, ◌||◌, eqb, inl, inr, length, take, get_or, map, set, refl, sym, ◌∙◌, ap, arith, subst, All}
+use Rattle.std.proofs.Common.{◌≡◌, ◌≢◌, ◌<◌, ◌≤◌, ◌+◌, ◌-◌, ◌++◌, ◌∷◌, [], ℕ, zero, suc, Bool, true, false, List, cond, ◌||◌, eqb, inl, inr, length, take, get_or, set, refl, sym, ◌∙◌, ap, arith, subst}
 use Rattle.std.specs.List.Sorted.{IsStrictlyIncreasing}
-use Rattle.std.proofs.lemmas.Bool.{eq-eqb}
 use Rattle.std.proofs.lemmas.Bool.Decides.{eqb_tells}
 use Rattle.std.proofs.lemmas.List.{append-nil, length-set, get_or-set_same, get_or-set_other}
 use Rattle.face_poset.specs.Words.{holds}
 use Rattle.face_poset.specs.Rooms.{AllGain}
-use Rattle.face_poset.proofs.Members.{holds-before, holds_more, differ}
+use Rattle.face_poset.proofs.Members.{holds-before, holds_more}
 use Rattle.face_poset.proofs.cofaces.put_all.Goals as goal
 
 -- a list that has not been reached is as it was
@@ -28,24 +27,25 @@ more numbers value i old now new h rises l low within long e k lt =
     let has : holds (take (i + 1) numbers) (k + 1) ≡ (holds (take i numbers) (k + 1) || eqb n (k + 1)) = holds_more numbers i (k + 1) l in
     elim (eqb_tells n (k + 1)) [
       | inl p ↦
-        let at : k ≡ n - 1 = let q : n ≡ k + 1 = p.1 in omega arith in
-        let yes : holds (take (i + 1) numbers) (k + 1) ≡ true = has ∙ (ap (λ (b : Bool). holds (take i numbers) (k + 1) || b) p.0 ∙ or_true (holds (take i numbers) (k + 1))) in
-        read
-        ∙ (ap (λ (j : ℕ). get_or (set now (n - 1) (get_or now (n - 1) [] ++ value ∷ [])) j []) at
-        ∙ (get_or-set_same now (n - 1) (get_or now (n - 1) [] ++ value ∷ []) [] (omega arith)
-        ∙ (ap (λ (ps : List ℕ). ps ++ value ∷ []) (as_before numbers value i old now h rises l low within)
-        ∙ (ap (λ (j : ℕ). get_or old j [] ++ value ∷ []) (sym at) ∙ sym (ap (λ (b : Bool). get_or old k [] ++ cond b (value ∷ []) []) yes)))))
+          let at : k ≡ n - 1 = let q : n ≡ k + 1 = p.1 in omega arith in
+          let yes : holds (take (i + 1) numbers) (k + 1) ≡ true = has ∙ (ap (λ (b : Bool). holds (take i numbers) (k + 1) || b) p.0 ∙ or_true (holds (take i numbers) (k + 1))) in
+          read
+          ∙ (ap (λ (j : ℕ). get_or (set now (n - 1) (get_or now (n - 1) [] ++ value ∷ [])) j []) at
+          ∙ (get_or-set_same now (n - 1) (get_or now (n - 1) [] ++ value ∷ []) [] (omega arith)
+          ∙ (ap (λ (ps : List ℕ). ps ++ value ∷ []) (as_before numbers value i old now h rises l low within)
+          ∙ (ap (λ (j : ℕ). get_or old j [] ++ value ∷ []) (sym at) ∙ sym (ap (λ (b : Bool). get_or old k [] ++ cond b (value ∷ []) []) yes)))))
       | inr p ↦
-        let ne : k ≢ n - 1 = λ q. p.1 (omega arith) in
-        let no : holds (take (i + 1) numbers) (k + 1) ≡ holds (take i numbers) (k + 1) = has ∙ (ap (λ (b : Bool). holds (take i numbers) (k + 1) || b) p.0 ∙ or_false (holds (take i numbers) (k + 1))) in
-        read
-        ∙ (get_or-set_other now (n - 1) k (get_or now (n - 1) [] ++ value ∷ []) [] ne
-        ∙ (h k lt ∙ sym (ap (λ (b : Bool). get_or old k [] ++ cond b (value ∷ []) []) no)))
+          let ne : k ≢ n - 1 = λ q. p.1 (omega arith) in
+          let no : holds (take (i + 1) numbers) (k + 1) ≡ holds (take i numbers) (k + 1) = has ∙ (ap (λ (b : Bool). holds (take i numbers) (k + 1) || b) p.0 ∙ or_false (holds (take i numbers) (k + 1))) in
+          read
+          ∙ (get_or-set_other now (n - 1) k (get_or now (n - 1) [] ++ value ∷ []) [] ne
+          ∙ (h k lt ∙ sym (ap (λ (b : Bool). get_or old k [] ++ cond b (value ∷ []) []) no)))
     ]
   where
     or_true : (b : Bool) → (b || true) ≡ true
     or_true true = refl
     or_true false = refl
+
     or_false : (b : Bool) → (b || false) ≡ b
     or_false true = refl
     or_false false = refl

@@ -1,12 +1,12 @@
-use Rattle.std.proofs.Common.{◌≡◌, ◌≢◌, ◌<◌, ◌≤◌, ◌+◌, ◌-◌, ◌++◌, ◌∷◌, [], ℕ, zero, suc, zero-add, add-zero, Bool, true, List, cond, eqb, length, take, get_or, map, set, replicate, refl, sym, ◌∙◌, ap, arith}
-use Rattle.std.proofs.lemmas.List.{get_or_default, take_more, take_all, length-replicate, length-take-le}
+use Rattle.std.proofs.Common.{◌≡◌, ◌≢◌, ◌<◌, ◌≤◌, ◌+◌, ◌-◌, ◌∷◌, [], ℕ, zero, suc, zero-add, add-zero, Bool, true, List, cond, eqb, length, take, get_or, map, set, replicate, refl, sym, ◌∙◌, ap, arith}
+use Rattle.std.proofs.lemmas.List.{take_more, length-take-le}
 use Rattle.std.proofs.lemmas.List.FromFn.{length-map-range_with_len, get_or-map-range_with_len}
 use Rattle.std.specs.List.{range_with_len}
 use Rattle.std.proofs.lemmas.Bool.{eq-eqb}
 use Rattle.std.proofs.lemmas.List.Sums.{count_by-le-length}
 use Rattle.face_poset.specs.Words.{upto}
 use Rattle.face_poset.proofs.Counting.{times, times-append}
-use Rattle.face_poset.proofs.Members.{length-upto, set-map-upto, differ}
+use Rattle.face_poset.proofs.Members.{set-map-upto, differ}
 use Rattle.face_poset.proofs.cofaces.tally.Goals as goal
 
 zeros : (a n : ℕ) → replicate {A = ℕ} n 0 ≡ map {A = ℕ} (λ _. 0) (range_with_len a n)
@@ -51,7 +51,7 @@ more xs counts most i at lt e low high here =
     let same : eqb x x ≡ true = eq-eqb x x refl in
     let new : times x (take (i + 1) xs) ≡ at + 1 = step x ∙ (ap (λ (b : Bool). times x (take i xs) + cond b 1 0) same ∙ ap (λ (m : ℕ). m + 1) (sym here)) in
     let kept : (n : ℕ) → n ≢ x → times n (take i xs) ≡ times n (take (i + 1) xs) =
-        λ n ne. sym (step n ∙ (ap (λ (b : Bool). times n (take i xs) + cond b 1 0) (differ x n (λ q. ne (sym q))) ∙ add-zero (times n (take i xs)))) in
+    λ n ne. sym (step n ∙ (ap (λ (b : Bool). times n (take i xs) + cond b 1 0) (differ x n (λ q. ne (sym q))) ∙ add-zero (times n (take i xs)))) in
     ap (λ (cs : List ℕ). set cs (x - 1) (at + 1)) e
     ∙ set-map-upto (λ n. times n (take i xs)) (λ n. times n (take (i + 1) xs)) most x (at + 1) low high new kept
 
@@ -59,5 +59,5 @@ pub loop-number-preserved : goal.loop-number-preserved
 loop-number-preserved c =
     let w : (1 ≤ get_or c.args.numbers.now c.loop-number.number-index 0) × (get_or c.args.numbers.now c.loop-number.number-index 0 ≤ c.args.most) = c.requires c.loop-number.number-index 0 c.loop-number-test.true in
     let at : c.index_mut.result.now ≡ times (get_or c.args.numbers.now c.loop-number.number-index 0) (take c.loop-number.number-index c.args.numbers.now) =
-        count_at c.args.numbers.now c.loop-number.counts.items c.args.most (get_or c.args.numbers.now c.loop-number.number-index 0) c.loop-number.number-index c.index_mut.result.now c.loop-number.invariant w.0 w.1 c.index_mut.ensures.value in
+    count_at c.args.numbers.now c.loop-number.counts.items c.args.most (get_or c.args.numbers.now c.loop-number.number-index 0) c.loop-number.number-index c.index_mut.result.now c.loop-number.invariant w.0 w.1 c.index_mut.ensures.value in
     more c.args.numbers.now c.loop-number.counts.items c.args.most c.loop-number.number-index c.index_mut.result.now c.loop-number-test.true c.loop-number.invariant w.0 w.1 at

@@ -1,4 +1,4 @@
-use Rattle.std.proofs.Common.{◌≡◌, ◌≤◌, ◌<◌, ◌-◌, ◌+◌, ℕ, length, get_or, arith, ap, ◌∙◌, sym, suc, subst, zero, refl, List, ◌≢◌}
+use Rattle.std.proofs.Common.{◌≡◌, ◌≤◌, ◌<◌, ◌-◌, ℕ, length, get_or, arith, ap, ◌∙◌, sym, suc, zero, refl, List, ◌≢◌}
 use Rattle.face_poset.specs.Cuts.{begin_of}
 use Rattle.face_poset.proofs.Cuts.{begin_first, begin_next, part_within}
 use Rattle.face_poset.proofs.lists.begin_of_part.Goals as goal

@@ -1,4 +1,4 @@
-use Rattle.std.proofs.Common.{◌≡◌, ℕ, length, get_or, ap, ◌∙◌, sym, ◌-◌, take, drop}
+use Rattle.std.proofs.Common.{ℕ, get_or, ap, ◌∙◌, sym, ◌-◌, take, drop}
 use Rattle.face_poset.proofs.Cuts.{get_or-cut}
 use Rattle.face_poset.proofs.lists.part.Goals as goal
 

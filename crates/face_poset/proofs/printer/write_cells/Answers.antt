@@ -1,4 +1,4 @@
-use Rattle.std.proofs.Common.{◌≡◌, ◌++◌, ◌∷◌, [], ℕ, List, map, take, drop, get_or, ◌+◌, subst, ap, ◌∙◌, arith, length}
+use Rattle.std.proofs.Common.{◌≡◌, ◌++◌, [], ℕ, List, map, take, drop, get_or, ◌+◌, subst, ap, ◌∙◌, arith}
 use Rattle.std.specs.Io.KnownBytes.{Appends}
 use Rattle.std.proofs.KnownBytes.{Appends-trans}
 use Rattle.face_poset.specs.Text.{cell_text, commas, lead}
@@ -27,10 +27,10 @@ loop-index-preserved g c =
     let cells : List (List ℕ) = c.args.cells.now in
     let done : List ℕ = commas (map (cell_text c.args.dim) (take i cells)) in
     let more : done ++ (c.lead_at.result.now ++ cell_text c.args.dim c.get.result.now) ≡ commas (map (cell_text c.args.dim) (take (i + 1) cells)) =
-        ap (λ (xs : List ℕ). done ++ xs) (piece c.args.dim i cells c.lead_at.result.now c.get.result.now c.lead_at.ensures c.get.ensures)
-        ∙ cells-more c.args.dim i cells (omega (arith, c.len-index-end.ensures)) in
+    ap (λ (xs : List ℕ). done ++ xs) (piece c.args.dim i cells c.lead_at.result.now c.get.result.now c.lead_at.ensures c.get.ensures)
+    ∙ cells-more c.args.dim i cells (omega (arith, c.len-index-end.ensures)) in
     record {
       bytes = subst (Appends (g.K.Sink.written c.args.sink.now) (g.K.Sink.written c.write_cell.new.sink)) more
-        (Appends-trans _ _ _ done (c.lead_at.result.now ++ cell_text c.args.dim c.get.result.now) c.loop-index.invariant.bytes c.in_ok-write_cell.ensures.bytes.whole);
+          (Appends-trans _ _ _ done (c.lead_at.result.now ++ cell_text c.args.dim c.get.result.now) c.loop-index.invariant.bytes c.in_ok-write_cell.ensures.bytes.whole);
       still = c.in_ok-write_cell.ensures.cause.kept ∙ c.loop-index.invariant.still;
     }

@@ -1,4 +1,4 @@
-use Rattle.std.proofs.Common.{◌≡◌, ◌<◌, ◌≤◌, ◌++◌, ◌∷◌, [], ℕ, List, map, take, drop, get_or, ◌+◌, subst, ap, sym, ◌∙◌, arith, length}
+use Rattle.std.proofs.Common.{◌≡◌, ◌<◌, ◌++◌, [], ℕ, List, drop, get_or, ◌+◌, subst, ap, ◌∙◌, arith, length}
 use Rattle.std.specs.Io.KnownBytes.{Appends}
 use Rattle.std.proofs.KnownBytes.{Appends-trans}
 use Rattle.std.proofs.lemmas.List.{get_or_default}
@@ -32,10 +32,10 @@ loop-dim-preserved g c =
     let space : List (List (List ℕ)) = c.args.layers.now in
     let lt : i < n = c.loop-dim-test.true in
     let more : commas (layer_texts space i) ++ (c.lead_at.result.now ++ layer_text i (get_or space i c.index-layers-dim.result)) ≡ commas (layer_texts space (i + 1)) =
-        ap (λ (xs : List ℕ). commas (layer_texts space i) ++ xs) (piece space i c.lead_at.result.now c.index-layers-dim.result c.type_inv.layers (omega (arith, c.requires)) c.lead_at.ensures)
-        ∙ layers-more space n i lt in
+    ap (λ (xs : List ℕ). commas (layer_texts space i) ++ xs) (piece space i c.lead_at.result.now c.index-layers-dim.result c.type_inv.layers (omega (arith, c.requires)) c.lead_at.ensures)
+    ∙ layers-more space n i lt in
     record {
       bytes = subst (Appends (g.K.Sink.written c.args.sink.now) (g.K.Sink.written c.write_layer.new.sink)) more
-        (Appends-trans _ _ _ (commas (layer_texts space i)) (c.lead_at.result.now ++ layer_text i (get_or space i c.index-layers-dim.result)) c.loop-dim.invariant.bytes c.in_ok-write_layer.ensures.bytes.whole);
+          (Appends-trans _ _ _ (commas (layer_texts space i)) (c.lead_at.result.now ++ layer_text i (get_or space i c.index-layers-dim.result)) c.loop-dim.invariant.bytes c.in_ok-write_layer.ensures.bytes.whole);
       still = c.in_ok-write_layer.ensures.cause.kept ∙ c.loop-dim.invariant.still;
     }

@@ -1,6 +1,6 @@
-use Rattle.std.proofs.Common.{◌++◌, ◌∷◌, [], map, length, decimal, append_assoc, sym, ◌∙◌}
+use Rattle.std.proofs.Common.{◌++◌, ◌∷◌, [], map, append_assoc, sym, ◌∙◌}
 use Rattle.std.proofs.KnownBytes.{Appends-trans}
-use Rattle.face_poset.specs.Text.{cell_text, layer_text, commas, facet_texts}
+use Rattle.face_poset.specs.Text.{cell_text, layer_text, commas}
 use Rattle.face_poset.proofs.Writing.{writes_last, writes_stop, writes_break}
 use Rattle.face_poset.proofs.TextLemmas.{layer-parts}
 use Rattle.face_poset.proofs.printer.write_layer.Goals as goal

@@ -1,7 +1,7 @@
-use Rattle.std.proofs.Common.{◌++◌, ◌∷◌, [], List, ℕ, append_assoc, sym, ◌∙◌, refl, ◌+◌}
+use Rattle.std.proofs.Common.{◌++◌, ◌∷◌, [], ◌+◌}
 use Rattle.std.proofs.KnownBytes.{Appends-trans}
 use Rattle.face_poset.specs.Text.{layers_text, layer_texts, commas}
-use Rattle.face_poset.proofs.Writing.{writes_last, writes_stop, writes_break}
+use Rattle.face_poset.proofs.Writing.{writes_last, writes_break}
 use Rattle.face_poset.proofs.TextLemmas.{layers-parts}
 use Rattle.face_poset.proofs.printer.write_layers.Goals as goal
 

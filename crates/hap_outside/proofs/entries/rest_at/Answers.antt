@@ -1,4 +1,4 @@
-use Rattle.std.proofs.Common.{◌≡◌, ◌≤◌, length, drop, sym, ◌∙◌, arith}
+use Rattle.std.proofs.Common.{sym, ◌∙◌, arith}
 use Rattle.std.proofs.lemmas.List.{take_rest}
 use Rattle.hap_outside.proofs.OpenEntry.{rest_of_open}
 use Rattle.hap_outside.proofs.entries.rest_at.Goals as goal

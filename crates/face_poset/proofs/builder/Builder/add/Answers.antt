@@ -1,4 +1,4 @@
-use Rattle.std.proofs.Common.{◌≡◌, ◌<◌, ◌≤◌, ◌+◌, ◌++◌, ◌∷◌, [], ◌-◌, ℕ, Bool, true, Result, Ok, Err, OnOk, List, length, get_or, set, arith, sym, ap, subst, ◌∙◌}
+use Rattle.std.proofs.Common.{◌≡◌, ◌<◌, ◌≤◌, ◌+◌, ◌++◌, ◌∷◌, [], ◌-◌, ℕ, true, Result, Ok, Err, OnOk, List, length, get_or, set, arith, sym, ap, subst, ◌∙◌}
 use Rattle.std.specs.Result.{is_ok}
 use Rattle.std.proofs.lemmas.List.{get_or_default}
 use Rattle.face_poset.specs.Poset.{layer, count, cell_count, IsCell, IsSpace}
@@ -34,6 +34,6 @@ invariant_of-self-2 c =
     let b : c.len-2.result ≡ count facets 1 = count_read facets 1 c.len-2.result c.index-self-1.result four (omega arith) c.len-2.ensures in
     let d : c.len-3.result ≡ count facets 2 = count_read facets 2 c.len-3.result c.index-self-2.result four (omega arith) c.len-3.ensures in
     let e : c.len-4.result ≡ count facets 3 = count_read facets 3 c.len-4.result c.index-self-3.result four (omega arith) c.len-4.ensures in
-    let few : cell_count facets < 60000 = omega (arith, c.if-standing-ge60000.false) in
+    let few : cell_count facets < 60000 = omega (arith, c.if-standing-ge-MOST_CELLS.false) in
     keeps c.args.self.now facets c.args.dim c.args.facets.now c.index-self-dim.result c.push.new.self c.self.view_is c.self.invariant.0 c.requires.dim few c.requires.last c.requires.vertex c.requires.cell
     c.index-self-dim.is (on_ok c.push.result _ c.in_ok-map_err.ensures.variant c.push.ensures.ok)

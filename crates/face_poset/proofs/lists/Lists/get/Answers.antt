@@ -1,5 +1,4 @@
-use Rattle.std.proofs.Common.{◌≡◌, ℕ, length, arith, ap, ◌∙◌, sym}
-use Rattle.face_poset.specs.Cuts.{cut}
+use Rattle.std.proofs.Common.{◌≡◌, length, arith, ap, ◌∙◌, sym}
 use Rattle.face_poset.proofs.Cuts.{length-cut}
 use Rattle.face_poset.proofs.lists.Lists.get.Goals as goal
 

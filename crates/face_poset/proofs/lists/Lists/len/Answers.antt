@@ -1,4 +1,4 @@
-use Rattle.std.proofs.Common.{arith, ap, ◌∙◌, sym, length}
+use Rattle.std.proofs.Common.{ap, ◌∙◌, sym, length}
 use Rattle.face_poset.proofs.Cuts.{length-cut}
 use Rattle.face_poset.proofs.lists.Lists.len.Goals as goal
 

@@ -1,4 +1,4 @@
-use Rattle.std.proofs.Common.{◌≡◌, ◌≤◌, ◌+◌, ℕ, List, [], ◌∷◌, ◌++◌, length, length-append, arith, ap, ◌∙◌, sym, subst}
+use Rattle.std.proofs.Common.{◌≡◌, ◌≤◌, ℕ, List, [], ◌∷◌, ◌++◌, length, length-append, arith, ap, ◌∙◌, sym, subst}
 use Rattle.face_poset.specs.Cuts.{cut, IsCut}
 use Rattle.face_poset.proofs.Cuts.{cut-push, IsCut-push}
 use Rattle.face_poset.proofs.lists.Lists.push.Goals as goal

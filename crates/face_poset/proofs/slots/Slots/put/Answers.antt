@@ -1,4 +1,4 @@
-use Rattle.std.proofs.Common.{◌≡◌, ◌∷◌, ◌++◌, ◌<◌, ◌≤◌, ◌+◌, [], length, get_or, set, List, ℕ, arith, ap, sym, ◌∙◌, subst, refl}
+use Rattle.std.proofs.Common.{◌≡◌, ◌∷◌, ◌++◌, ◌<◌, ◌≤◌, ◌+◌, [], length, get_or, set, List, ℕ, arith, ap, sym, ◌∙◌, subst}
 use Rattle.std.proofs.lemmas.List.{get_or_default, length-set}
 use Rattle.face_poset.specs.Rooms.{Filling, filled, widths, IsFilled}
 use Rattle.face_poset.proofs.Rooms.{next_within, filled-put, IsFilled-put, length-nexts}

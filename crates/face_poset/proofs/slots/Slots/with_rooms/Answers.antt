@@ -1,6 +1,6 @@
-use Rattle.std.proofs.Common.{◌≡◌, ◌<◌, ◌+◌, ◌∷◌, ◌++◌, [], ℕ, List, Option, Some, length, take, get_or, map, ap, sym, ◌∙◌, subst, arith}
+use Rattle.std.proofs.Common.{◌≡◌, ◌<◌, ◌+◌, ◌∷◌, ◌++◌, [], ℕ, List, Option, Some, length, take, get_or, ap, sym, ◌∙◌, subst}
 use Rattle.std.specs.Option.{SomeIff}
-use Rattle.std.proofs.lemmas.List.{take_more, take_all, length-replicate}
+use Rattle.std.proofs.lemmas.List.{take_more, take_all}
 use Rattle.face_poset.specs.Rooms.{filled, widths, IsFilled}
 use Rattle.face_poset.proofs.Rooms.{ends_of, begins_of, end_of, ends_of-push, begins_of-push, end_of-push, widths-ends_of, filled-begins_of, IsFilled-begins_of}
 use Rattle.face_poset.proofs.slots.Slots.with_rooms.Goals as goal
@@ -26,9 +26,9 @@ loop-room-preserved c =
     let total : c.in_ok-total.total ≡ end_of 0 (take i rooms) + room = sum ∙ ap (λ (n : ℕ). n + room) t in
     record {
       ends = more rooms i 0 lt (ends_of 0) c.loop-room.ends.items c.push-in-loop-room.new.self.items c.in_ok-total.total c.loop-room.invariant.ends c.in_ok-push-2.ensures.items
-        (ends_of-push 0 (take i rooms) room ∙ ap (λ (n : ℕ). ends_of 0 (take i rooms) ++ n ∷ []) (sym total));
+          (ends_of-push 0 (take i rooms) room ∙ ap (λ (n : ℕ). ends_of 0 (take i rooms) ++ n ∷ []) (sym total));
       nexts = more rooms i 0 lt (begins_of 0) c.loop-room.nexts.items c.push.new.self.items c.loop-room.total c.loop-room.invariant.nexts c.in_ok-push.ensures.items
-        (begins_of-push 0 (take i rooms) room ∙ ap (λ (n : ℕ). begins_of 0 (take i rooms) ++ n ∷ []) (sym t));
+          (begins_of-push 0 (take i rooms) room ∙ ap (λ (n : ℕ). begins_of 0 (take i rooms) ++ n ∷ []) (sym t));
       total = total ∙ (sym (end_of-push 0 (take i rooms) room) ∙ sym (ap (end_of 0) (take_more rooms i 0 lt)));
     }
 
@@ -36,7 +36,7 @@ pub invariant_of-result : goal.invariant_of-result
 invariant_of-result c =
     let all : take c.loop-room.room-index c.args.rooms.now ≡ c.args.rooms.now = take_all c.loop-room.room-index c.args.rooms.now c.loop-room-test.false in
     let long : length c.in_ok-entries.entries.items ≡ end_of 0 c.args.rooms.now =
-        sym c.in_ok-entries.entries.ok.0 ∙ (c.in_ok-entries.ensures.len ∙ (c.loop-room.invariant.total ∙ ap (end_of 0) all)) in
+    sym c.in_ok-entries.entries.ok.0 ∙ (c.in_ok-entries.ensures.len ∙ (c.loop-room.invariant.total ∙ ap (end_of 0) all)) in
     subst (λ (es : List ℕ). IsFilled 0 es c.loop-room.nexts.items (length c.in_ok-entries.entries.items)) (sym (c.loop-room.invariant.ends ∙ ap (ends_of 0) all))
     (subst (λ (ns : List ℕ). IsFilled 0 (ends_of 0 c.args.rooms.now) ns (length c.in_ok-entries.entries.items)) (sym (c.loop-room.invariant.nexts ∙ ap (begins_of 0) all))
     (subst (λ (n : ℕ). IsFilled 0 (ends_of 0 c.args.rooms.now) (begins_of 0 c.args.rooms.now) n) (sym long) (IsFilled-begins_of 0 c.args.rooms.now)))

@@ -1,6 +1,5 @@
-use Rattle.std.proofs.Common.{◌≡◌, ◌≤◌, ◌+◌, ◌∷◌, [], ℕ, List, length, ap, sym, subst, arith}
+use Rattle.std.proofs.Common.{◌≤◌, ℕ, List, length, ap, sym, subst, arith}
 use Rattle.face_poset.specs.Poset.{count}
-use Rattle.face_poset.specs.Below.{closure}
 use Rattle.face_poset.proofs.SpaceLemmas.{dim_within}
 use Rattle.face_poset.proofs.BelowLemmas.{closure-one}
 use Rattle.face_poset.proofs.space.Space.below.Goals as goal

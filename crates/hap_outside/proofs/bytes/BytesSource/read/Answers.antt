@@ -1,5 +1,4 @@
-use Rattle.std.proofs.Common.{rules, ◌≡◌, ap, sym, ◌∙◌}
-use Rattle.hap_outside.specs.Entries.{left_at}
+use Rattle.std.proofs.Common.{rules, ◌≡◌}
 use Rattle.hap_outside.proofs.OpenEntry.{takes_front, left_at-more}
 use Rattle.hap_outside.proofs.bytes.BytesSource.read.Goals as goal
 

@@ -1,0 +1,13 @@
+mod Cut
+mod Splits
+mod Clear
+mod BringUp
+mod Reduced
+pub mod Ranks
+mod Views
+mod Built
+mod Sweep
+mod Solved
+mod Chosen
+mod Bases
+mod Turned

@@ -1,0 +1,5 @@
+pub mod Input
+pub mod Spaces
+pub mod Refusals
+pub mod Answers
+pub mod Outcomes

@@ -1,0 +1,157 @@
+// The whole program over the source, the sinks and the words that are handed in.
+ghost use Rattle.std.specs.Prelude.{◌≡◌, ◌≢◌, ◌⊎◌, ◌<◌, true, false, map, string_bytes, IfSome, IsNone, MatchOption};
+ghost use Rattle.std.specs.Io.KnownBytes.{IsAtEnd};
+ghost use Rattle.hap_outside.specs.Causes.{Rose};
+ghost use Rattle.hap_outside.specs.Stores.{bytes_under};
+ghost use Rattle.hap_words.specs.Asked.{cells, source_of, asked_of};
+ghost use Rattle.hap_words.specs.Table.{is_built, read as asked_by};
+ghost use Rattle.hap_cli.specs.declared.outcome.Outcome.{Outcome as AnOutcome};
+ghost use Rattle.hap_cli.specs.Input.{input_name};
+ghost use Rattle.hap_cli.specs.Refusals.{refusal};
+ghost use Rattle.hap_cli.specs.Outcomes.{status_of, line_of, status_for, Tells, IsEnd};
+
+use crate::cells::write_cells;
+use crate::input::{MOST_BYTES, read_input};
+use crate::outcome::{Outcome, end_with};
+use crate::refusal::Refusal;
+use crate::space::read_space;
+use hap_outside::{Failed, ReadAll, Sink, Source, Steps};
+use hap_words::{Command, Input, WordsFault, read};
+use std::alloc::Global;
+use std::mem::drop;
+use std::sync::ledger::Ledger;
+
+// Reads a space and writes how many cells it has.
+fn run_cells<S: Source, K: Sink>(
+    alloc: Global,
+    input: &Input,
+    source: &mut S,
+    out: &mut K,
+) -> Outcome
+    requires { S.begun source.old ≡ false }
+    ensures cause { IsEnd (cells (source_of input.now)) (S.store source.old)
+        (Rose (S.faults source.old) (S.faults source.new)) (Rose (K.faults out.old) (K.faults out.new))
+        (K.written out.old) (K.written out.new) result }
+    ensures read_told { S.faults source.old < S.faults source.new → result ≡ Outcome.ReadFault }
+    ensures write_told { K.faults out.old < K.faults out.new → result ≡ Outcome.WriteFault }
+    ensures end { result ≡ Outcome.Done → IsAtEnd (S.left source.new) }
+    ensures nothing { result ≢ Outcome.Done → result ≢ Outcome.WriteFault → out.new ≡ out.old }
+{
+    let bytes = match read_input(alloc, input, source) {
+        Ok(bytes) => bytes,
+        Err(ReadAll::Fault) => return Outcome::ReadFault,
+        Err(ReadAll::TooLong) => return Outcome::Refused(Refusal::TooLong(MOST_BYTES)),
+        Err(ReadAll::Memory) => return Outcome::Memory,
+    };
+    let space = match read_space(alloc, &bytes) {
+        Ok(space) => space,
+        Err(outcome) => return outcome,
+    };
+    match write_cells(out, &space) {
+        Ok(()) => Outcome::Done,
+        Err(Failed) => Outcome::WriteFault,
+    }
+}
+
+// Reads the input of the command and writes its answer.
+fn perform<S: Source, K: Sink>(
+    alloc: Global,
+    command: &Command,
+    source: &mut S,
+    out: &mut K,
+) -> Outcome
+    requires begun { S.begun source.old ≡ false }
+    requires built { is_built (asked_of command.now) ≡ true }
+    ensures cause { IsEnd (asked_of command.now) (S.store source.old)
+        (Rose (S.faults source.old) (S.faults source.new)) (Rose (K.faults out.old) (K.faults out.new))
+        (K.written out.old) (K.written out.new) result }
+    ensures read_told { S.faults source.old < S.faults source.new → result ≡ Outcome.ReadFault }
+    ensures write_told { K.faults out.old < K.faults out.new → result ≡ Outcome.WriteFault }
+    ensures end { result ≡ Outcome.Done → IsAtEnd (S.left source.new) }
+    ensures nothing { result ≢ Outcome.Done → result ≢ Outcome.WriteFault → out.new ≡ out.old }
+{
+    match command {
+        Command::Cells { input } => run_cells(alloc, input, source, out),
+        _ => Outcome::Usage,
+    }
+}
+
+// Reads the words and does what they ask for.
+fn perform_words<S: Source, K: Sink>(
+    alloc: Global,
+    words: &[String],
+    source: &mut S,
+    out: &mut K,
+) -> Outcome
+    requires { S.begun source.old ≡ false }
+    ensures cause { MatchOption (asked_by (map string_bytes words.now))
+        ((result ≡ Outcome.Usage) ⊎ (result ≡ Outcome.Memory)) (λ asked.
+        IsEnd asked (S.store source.old)
+        (Rose (S.faults source.old) (S.faults source.new)) (Rose (K.faults out.old) (K.faults out.new))
+        (K.written out.old) (K.written out.new) result) }
+    ensures untouched { IsNone (asked_by (map string_bytes words.now)) → source.new ≡ source.old }
+    ensures read_told { S.faults source.old < S.faults source.new → result ≡ Outcome.ReadFault }
+    ensures write_told { K.faults out.old < K.faults out.new → result ≡ Outcome.WriteFault }
+    ensures end { result ≡ Outcome.Done → IsAtEnd (S.left source.new) }
+    ensures nothing { result ≢ Outcome.Done → result ≢ Outcome.WriteFault → out.new ≡ out.old }
+{
+    match read(alloc, words) {
+        Ok(command) => {
+            let outcome = perform(alloc, &command, source, out);
+            drop(command);
+            outcome
+        }
+        Err(WordsFault::Usage) => Outcome::Usage,
+        Err(WordsFault::Memory) => Outcome::Memory,
+    }
+}
+
+/// Does all that the program does, and answers its status. The words are those after the program's name.
+pub fn run<S: Source, K: Sink, E: Sink, L: Ledger>(
+    alloc: Global,
+    words: &[String],
+    source: &mut S,
+    out: &mut K,
+    err: &mut E,
+    steps: &mut Steps<L>,
+) -> u8
+    requires { S.begun source.old ≡ false }
+
+    // How the run ended, its status and its line on err, with the cause and with what is on the output. Where
+    // the words are refused, that is the cause, or memory was wanting to read them.
+    ensures ended { (outcome : AnOutcome) × (result ≡ status_of outcome)
+        × Tells (E.written err.old) (E.written err.new) (line_of outcome)
+        (Rose (E.faults err.old) (E.faults err.new))
+        × MatchOption (asked_by (map string_bytes words.now))
+        ((outcome ≡ Outcome.Usage) ⊎ (outcome ≡ Outcome.Memory)) (λ asked.
+        IsEnd asked (S.store source.old)
+        (Rose (S.faults source.old) (S.faults source.new))
+        (Rose (K.faults out.old) (K.faults out.new))
+        (K.written out.old) (K.written out.new) outcome) }
+
+    // Where the words are refused, the source is untouched.
+    ensures usage { IsNone (asked_by (map string_bytes words.now)) → (result ≡ 2) ⊎ (result ≡ 9) }
+    ensures untouched { IsNone (asked_by (map string_bytes words.now)) → source.new ≡ source.old }
+
+    // Where nothing failed outside, the status is that of the refusal, or 0, or memory was wanting.
+    ensures exact { IfSome (asked_by (map string_bytes words.now)) (λ asked.
+        IfSome (bytes_under (S.store source.old) (input_name asked)) (λ bytes.
+        (Rose (S.faults source.old) (S.faults source.new) → ⊥)
+        → (Rose (K.faults out.old) (K.faults out.new) → ⊥)
+        → (result ≡ status_for (refusal asked bytes)) ⊎ (result ≡ 9))) }
+
+    // Faults come only where the count rose, and always where it is greater after than before.
+    ensures read { result ≡ 7 → Rose (S.faults source.old) (S.faults source.new) }
+    ensures read_told { S.faults source.old < S.faults source.new → result ≡ 7 }
+    ensures write { result ≡ 8 → Rose (K.faults out.old) (K.faults out.new) }
+    ensures write_told { K.faults out.old < K.faults out.new → result ≡ 8 }
+
+    // What is left.
+    ensures end { result ≡ 0 → IsAtEnd (S.left source.new) }
+    ensures nothing { result ≢ 0 → result ≢ 8 → out.new ≡ out.old }
+    ensures silent { result ≡ 0 → err.new ≡ err.old }
+    ensures steps { steps.new ≡ steps.old }
+{
+    let outcome = perform_words(alloc, words, source, out);
+    end_with(err, outcome)
+}

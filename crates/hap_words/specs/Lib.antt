@@ -1,0 +1,5 @@
+pub mod Line
+pub mod Texts
+pub mod Asked
+pub mod Table
+pub mod Reads

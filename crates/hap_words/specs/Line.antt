@@ -1,0 +1,21 @@
+-- The command line as one simple command of the crate `clap`: a required word, and eight options with one value each.
+use Rattle.std.specs.Prelude.{true, codes}
+use Rattle.std.specs.declared.option.Option.TheVariants.{Some}
+use Rattle.clap.specs.Words.{App, Rule, Text, new_app, new_rule, with_rule}
+use Rattle.clap.specs.declared.builder.action.ArgAction.TheVariants.{Set}
+
+abbrev pub option_rule : Text → Rule
+option_rule name = record (new_rule name) { long = Some name; action = Some Set }
+
+abbrev pub command_rule : Rule
+command_rule = record (new_rule (codes "command")) { required = true; action = Some Set }
+
+-- one required word, and no option for help
+abbrev pub bare_app : App
+bare_app = with_rule (record (new_app (codes "hap")) { top = record (new_app (codes "hap")).top { no_binary_name = true; disable_help_flag = true } }) command_rule
+
+-- the same with the eight options
+unfoldable pub hap_app : App
+hap_app =
+    let four = with_rule (with_rule (with_rule (with_rule bare_app (option_rule (codes "kind"))) (option_rule (codes "in"))) (option_rule (codes "mod"))) (option_rule (codes "sheets")) in
+    with_rule (with_rule (with_rule (with_rule four (option_rule (codes "budget"))) (option_rule (codes "from"))) (option_rule (codes "index"))) (option_rule (codes "size"))

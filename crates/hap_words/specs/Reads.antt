@@ -1,0 +1,14 @@
+-- What a reader of words answers.
+use Rattle.std.specs.Prelude.{◌≡◌, ⊤}
+use Rattle.std.specs.declared.option.Option.{Option}
+use Rattle.std.specs.declared.option.Option.TheVariants.{Some, None}
+use Rattle.std.specs.declared.result.Result.{Result}
+use Rattle.std.specs.declared.result.Result.TheVariants.{Ok, Err}
+use Rattle.hap_words.specs.declared.fault.WordsFault.{WordsFault}
+use Rattle.hap_words.specs.declared.fault.WordsFault.TheVariants.{Usage, Memory}
+
+-- Ok comes with the value, a refusal exactly where there is none, and want of memory at will
+abbrev pub Reads : {T A : Type 0} → (T → A) → Option A → Result T WordsFault → Type 0
+Reads view value (Ok t) = value ≡ Some (view t)
+Reads view value (Err Usage) = value ≡ None
+Reads view value (Err Memory) = ⊤

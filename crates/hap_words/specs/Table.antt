@@ -1,0 +1,196 @@
+-- The table of commands: their words, the options that each takes, the values and the defaults.
+use Rattle.std.specs.Prelude.{◌≡◌, ℕ, List, [], ◌∷◌, Bool, true, false, ◌&&◌, ◌||◌, ◌==◌, codes, is_none, if◌then◌else◌, option_map}
+use Rattle.std.specs.declared.option.Option.{Option}
+use Rattle.std.specs.declared.option.Option.TheVariants.{Some, None}
+use Rattle.std.specs.List.{list_all, list_any}
+use Rattle.clap.specs.declared.error.kind.ErrorKind.{ErrorKind}
+use Rattle.clap.specs.Words.{Row, Text, fault_of, first_of, matches_of}
+use Rattle.face_poset.specs.Positions.{position_from}
+use Rattle.hap_words.specs.declared.command.Kind.{Kind}
+use Rattle.hap_words.specs.declared.command.Kind.TheVariants.{Boundary, Cubical, Permutahedral, Arcs}
+use Rattle.hap_words.specs.declared.table.Verb.{Verb}
+use Rattle.hap_words.specs.declared.table.Verb.TheVariants as verb
+use Rattle.hap_words.specs.declared.table.Name.{Name}
+use Rattle.hap_words.specs.declared.table.Name.TheVariants as name
+use Rattle.hap_words.specs.Line.{hap_app}
+use Rattle.hap_words.specs.Texts.{named, number_between}
+use Rattle.hap_words.specs.Asked.{Asked, Source, SearchPlace, cells, check, betti, cup, verify, group, covers, cover, report, make}
+
+-- ---- the words
+
+abbrev pub verbs : List (Text × Verb)
+verbs =
+    (codes "cells", verb.Cells) ∷ (codes "check", verb.Check) ∷ (codes "betti", verb.Betti) ∷ (codes "cup", verb.Cup) ∷ (codes "verify", verb.Verify)
+    ∷ (codes "group", verb.Group) ∷ (codes "covers", verb.Covers) ∷ (codes "cover", verb.Cover) ∷ (codes "report", verb.Report) ∷ (codes "make", verb.Make) ∷ []
+
+abbrev pub kinds : List (Text × Kind)
+kinds = (codes "boundary", Boundary) ∷ (codes "cubical", Cubical) ∷ (codes "permutahedral", Permutahedral) ∷ (codes "arcs", Arcs) ∷ []
+
+-- ---- the options that each command takes
+
+abbrev pub names_of : Verb → List Name
+names_of verb.Cells = name.Kind ∷ name.In ∷ []
+names_of verb.Check = name.Kind ∷ name.In ∷ []
+names_of verb.Betti = name.Kind ∷ name.In ∷ name.Mod ∷ []
+names_of verb.Cup = name.Kind ∷ name.In ∷ name.Mod ∷ []
+names_of verb.Verify = name.In ∷ []
+names_of verb.Group = name.Kind ∷ name.In ∷ []
+names_of verb.Covers = name.Kind ∷ name.In ∷ name.Sheets ∷ name.Budget ∷ name.From ∷ []
+names_of verb.Cover = name.Kind ∷ name.In ∷ name.Sheets ∷ name.Index ∷ name.Budget ∷ name.Mod ∷ []
+names_of verb.Report = name.Kind ∷ name.In ∷ name.Mod ∷ name.Sheets ∷ name.Budget ∷ name.From ∷ []
+names_of verb.Make = name.Size ∷ name.Mod ∷ []
+
+abbrev pub number_of_name : Name → ℕ
+number_of_name name.Kind = 0
+number_of_name name.In = 1
+number_of_name name.Mod = 2
+number_of_name name.Sheets = 3
+number_of_name name.Budget = 4
+number_of_name name.From = 5
+number_of_name name.Index = 6
+number_of_name name.Size = 7
+
+abbrev pub takes : Verb → Name → Bool
+takes v n = list_any (λ m. number_of_name m == number_of_name n) (names_of v)
+
+abbrev pub names : List Name
+names = name.Kind ∷ name.In ∷ name.Mod ∷ name.Sheets ∷ name.Budget ∷ name.From ∷ name.Index ∷ name.Size ∷ []
+
+abbrev pub word_of : Name → Text
+word_of name.Kind = codes "kind"
+word_of name.In = codes "in"
+word_of name.Mod = codes "mod"
+word_of name.Sheets = codes "sheets"
+word_of name.Budget = codes "budget"
+word_of name.From = codes "from"
+word_of name.Index = codes "index"
+word_of name.Size = codes "size"
+
+-- the text that was given under an option, by the rows of the matches
+abbrev pub text_under : List Row → Name → Option Text
+text_under rows n = first_of (word_of n) rows
+
+-- only options of the command's line are given
+abbrev pub fits_at : Verb → List Row → Name → Bool
+fits_at v rows n = is_none (text_under rows n) || takes v n
+
+abbrev pub fits : Verb → List Row → Bool
+fits v rows = list_all (fits_at v rows) names
+
+-- ---- the values
+
+-- an option that is left out has its default
+abbrev pub value_or : {A : Type 0} → A → (Text → Option A) → Option Text → Option A
+value_or default read None = Some default
+value_or default read (Some text) = read text
+
+-- an option that may be left out has no default
+abbrev pub value_if : {A : Type 0} → (Text → Option A) → Option Text → Option (Option A)
+value_if read None = Some None
+value_if read (Some text) = option_map Some (read text)
+
+-- an option that must be given
+abbrev pub value_of : {A : Type 0} → (Text → Option A) → Option Text → Option A
+value_of read None = None
+value_of read (Some text) = read text
+
+abbrev pub if_modulus : Option ℕ → Option ℕ
+if_modulus None = None
+if_modulus (Some n) = if (n == 2) || ((n == 3) || ((n == 5) || (n == 7))) then Some n else None
+
+abbrev pub modulus_of : Text → Option ℕ
+modulus_of text = if_modulus (number_between 2 7 text)
+
+abbrev pub modulus : List Row → Option ℕ
+modulus rows = value_or 2 modulus_of (text_under rows name.Mod)
+
+abbrev pub modulus_if : List Row → Option (Option ℕ)
+modulus_if rows = value_if modulus_of (text_under rows name.Mod)
+
+-- a number between two bounds that must be given
+abbrev pub number_under : List Row → Name → (least most : ℕ) → Option ℕ
+number_under rows n least most = value_of (number_between least most) (text_under rows n)
+
+abbrev pub sheets : List Row → Option ℕ
+sheets rows = number_under rows name.Sheets 1 5
+
+abbrev pub budget : List Row → Option ℕ
+budget rows = value_or 10000000 (number_between 1 1000000000000000) (text_under rows name.Budget)
+
+abbrev pub index : List Row → Option ℕ
+index rows = number_under rows name.Index 1 1000000000
+
+abbrev pub size : List Row → Option ℕ
+size rows = number_under rows name.Size 2 19
+
+-- left out, the start
+abbrev pub from : List Row → Option SearchPlace
+from rows = value_or (0, []) position_from (text_under rows name.From)
+
+abbrev pub kind : List Row → Option Kind
+kind rows = value_or Boundary (named kinds) (text_under rows name.Kind)
+
+abbrev pub source : List Row → Option Source
+source rows = option_map (λ k. record { kind = k; name = text_under rows name.In }) (kind rows)
+
+-- ---- the command with its values, where each has one
+
+abbrev pub with : {A B : Type 0} → Option A → (A → Option B) → Option B
+with None go = None
+with (Some a) go = go a
+
+abbrev pub asked_by : Verb → List Row → Option Asked
+asked_by verb.Cells rows = with (source rows) (λ s. Some (cells s))
+asked_by verb.Check rows = with (source rows) (λ s. Some (check s))
+asked_by verb.Betti rows = with (source rows) (λ s. with (modulus rows) (λ p. Some (betti s p)))
+asked_by verb.Cup rows = with (source rows) (λ s. with (modulus rows) (λ p. Some (cup s p)))
+asked_by verb.Verify rows = Some (verify (text_under rows name.In))
+asked_by verb.Group rows = with (source rows) (λ s. Some (group s))
+asked_by verb.Covers rows = with (source rows) (λ s. with (sheets rows) (λ n. with (budget rows) (λ b. with (from rows) (λ t. Some (covers s n b t)))))
+asked_by verb.Cover rows = with (source rows) (λ s. with (sheets rows) (λ n. with (index rows) (λ i. with (budget rows) (λ b. with (modulus_if rows) (λ p. Some (cover s n i b p))))))
+asked_by verb.Report rows = with (source rows) (λ s. with (modulus rows) (λ p. with (sheets rows) (λ n. with (budget rows) (λ b. with (from rows) (λ t. Some (report s p n b t))))))
+asked_by verb.Make rows = with (size rows) (λ n. with (modulus_if rows) (λ p. Some (make n p)))
+
+abbrev pub verb_given : List Row → Option Verb
+verb_given rows = with (first_of (codes "command") rows) (named verbs)
+
+abbrev pub asked_given : List Row → Option Asked
+asked_given rows = with (verb_given rows) (λ v. if fits v rows then asked_by v rows else None)
+
+-- what the words ask for, where `clap` takes them and the table has it
+abbrev pub unless_faulty : List ErrorKind → Option Asked → Option Asked
+unless_faulty [] asked = asked
+unless_faulty (fault ∷ faults) asked = None
+
+abbrev pub asked : List Text → Option Asked
+asked words = unless_faulty (fault_of hap_app words) (asked_given (matches_of hap_app words))
+
+-- ---- what is built
+
+abbrev pub verb_is_built : Verb → Bool
+verb_is_built verb.Cells = true
+verb_is_built other = false
+
+abbrev pub kind_is_built : Kind → Bool
+kind_is_built Boundary = true
+kind_is_built other = false
+
+abbrev pub is_built : Asked → Bool
+is_built (cells s) = verb_is_built verb.Cells && kind_is_built s.kind
+is_built (check s) = verb_is_built verb.Check && kind_is_built s.kind
+is_built (betti s p) = verb_is_built verb.Betti && kind_is_built s.kind
+is_built (cup s p) = verb_is_built verb.Cup && kind_is_built s.kind
+is_built (verify name) = verb_is_built verb.Verify
+is_built (group s) = verb_is_built verb.Group && kind_is_built s.kind
+is_built (covers s n b t) = verb_is_built verb.Covers && kind_is_built s.kind
+is_built (cover s n i b p) = verb_is_built verb.Cover && kind_is_built s.kind
+is_built (report s p n b t) = verb_is_built verb.Report && kind_is_built s.kind
+is_built (make n p) = verb_is_built verb.Make
+
+abbrev pub if_built : Option Asked → Option Asked
+if_built None = None
+if_built (Some a) = if is_built a then Some a else None
+
+-- the reading of the words: what they ask for, where that is built
+abbrev pub read : List Text → Option Asked
+read words = if_built (asked words)

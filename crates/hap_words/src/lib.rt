@@ -1,0 +1,16 @@
+//! The words of the command line: which command they ask for, with its options as values.
+#![tactic(auto)]
+
+mod command;
+mod fault;
+mod line;
+mod reader;
+mod table;
+mod texts;
+
+pub use command::{Command, Input, Kind};
+pub use fault::WordsFault;
+pub use reader::{read, read_any};
+
+#[cfg(test)]
+mod tests;
