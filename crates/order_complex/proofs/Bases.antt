@@ -12,18 +12,11 @@ use Rattle.linear_algebra.proofs.Betti.{basis_by_ranks}
 use Rattle.order_complex.specs.Chains.{chains_of}
 use Rattle.order_complex.specs.Cochains.{coboundary, coboundary_on, mark, zeros}
 use Rattle.order_complex.specs.Homology.{IsCocycle, IsCoboundary, IsClass, IsBasis, IsBetti}
+use Rattle.order_complex.specs.Ranks.{rows_of, rows_into}
 use Rattle.order_complex.proofs.Ordered.{ordered-chains_of}
-use Rattle.order_complex.proofs.Evaluation.{rows_on, rows_on-matrix, coboundary_on-combination}
+use Rattle.order_complex.proofs.Evaluation.{rows_on-matrix, coboundary_on-combination}
 use Rattle.order_complex.proofs.Classes.{coboundary-vector, coboundary_on-vector, bases_are_as_long}
 use Rattle.order_complex.proofs.Twice.{coboundary-coboundary}
-
--- the rows of the coboundary of a degree, and of the one into a degree: none into degree 0
-abbrev pub rows_of : Ops → List (List (List ℕ)) → (degree : ℕ) → List (List ℕ)
-rows_of F space degree = rows_on F (chains_of space degree) (chains_of space (suc degree))
-
-abbrev pub rows_into : Ops → List (List (List ℕ)) → (degree : ℕ) → List (List ℕ)
-rows_into F space zero = []
-rows_into F space (suc degree) = rows_of F space degree
 
 module _ (F : Ops) (L : IsField F) (space : List (List (List ℕ))) where
   pub length-rows_of : (degree : ℕ) → length (rows_of F space degree) ≡ length (chains_of space degree)
@@ -79,9 +72,9 @@ module _ (F : Ops) (L : IsField F) (space : List (List (List ℕ))) where
   entry_difference a p b q ha hp hb hq e =
       let sum : F.add a p ≡ F.add b q = ap (F.add a) (sym (L.one_mul p hp)) ∙ e ∙ ap (F.add b) (L.one_mul q hq) in
       let left : F.add (F.add a q) (F.add p (F.neg q)) ≡ F.add a p =
-        add_swap F L a q p (F.neg q) ∙ ap (F.add (F.add a p)) (L.add_neg q) ∙ add_zero F L (F.add a p) (L.add_below a p) in
+      add_swap F L a q p (F.neg q) ∙ ap (F.add (F.add a p)) (L.add_neg q) ∙ add_zero F L (F.add a p) (L.add_below a p) in
       let right : F.add (F.add a q) (F.add b (F.neg a)) ≡ F.add b q =
-        ap (λ x. F.add x (F.add b (F.neg a))) (L.add_comm a q) ∙ add_swap F L q a b (F.neg a) ∙ ap (F.add (F.add q b)) (L.add_neg a) ∙ add_zero F L (F.add q b) (L.add_below q b) ∙ L.add_comm q b in
+      ap (λ x. F.add x (F.add b (F.neg a))) (L.add_comm a q) ∙ add_swap F L q a b (F.neg a) ∙ ap (F.add (F.add q b)) (L.add_neg a) ∙ add_zero F L (F.add q b) (L.add_below q b) ∙ L.add_comm q b in
       ap (F.add p) (minus_one q hq)
       ∙ add_cancel F L (F.add a q) (F.add p (F.neg q)) (F.add b (F.neg a)) (L.add_below p (F.neg q)) (L.add_below b (F.neg a)) (left ∙ sum ∙ sym right)
       ∙ ap (F.add b) (sym (minus_one a ha))
@@ -96,12 +89,15 @@ module _ (F : Ops) (L : IsField F) (space : List (List (List ℕ))) where
   difference (x ∷ a) (y ∷ p) [] q lp lb lq ha hp hb hq e = absurd (omega arith)
   difference (x ∷ a) (y ∷ p) (z ∷ b) [] lp lb lq ha hp hb hq e = absurd (omega arith)
   difference (x ∷ a) (y ∷ p) (z ∷ b) (w ∷ q) lp lb lq ha hp hb hq e =
-      rw (entry_difference x y z w ha.0 hp.0 hb.0 hq.0 (ap head e),
-      difference a p b q (omega arith) (omega arith) (omega arith) ha.1 hp.1 hb.1 hq.1 (ap rest e)) refl
+      rw (
+        entry_difference x y z w ha.0 hp.0 hb.0 hq.0 (ap head e),
+        difference a p b q (omega arith) (omega arith) (omega arith) ha.1 hp.1 hb.1 hq.1 (ap rest e),
+      ) refl
     where
       head : List ℕ → ℕ
       head [] = 0
       head (t ∷ ts) = t
+
       rest : List ℕ → List ℕ
       rest [] = []
       rest (t ∷ ts) = ts
@@ -122,6 +118,7 @@ module _ (F : Ops) (L : IsField F) (space : List (List (List ℕ))) where
       head : List ℕ → ℕ
       head [] = 0
       head (t ∷ ts) = t
+
       rest : List ℕ → List ℕ
       rest [] = []
       rest (t ∷ ts) = ts
@@ -142,10 +139,10 @@ module _ (F : Ops) (L : IsField F) (space : List (List (List ℕ))) where
       let vp = combination-vector F L n cs zs m in
       let vq = combination-vector F L n ds zs m in
       let less : plus_scaled F (F.neg 1) (combination F n cs zs) (combination F n ds zs) ≡ plus_scaled F (F.neg 1) k.rest h.rest =
-        difference h.rest (combination F n cs zs) k.rest (combination F n ds zs) (vp.long ∙ sym va.long) (vb.long ∙ sym va.long) (vq.long ∙ sym va.long) va.elements vp.elements vb.elements vq.elements (sym h.is_sum ∙ k.is_sum) in
+      difference h.rest (combination F n cs zs) k.rest (combination F n ds zs) (vp.long ∙ sym va.long) (vb.long ∙ sym va.long) (vq.long ∙ sym va.long) va.elements vp.elements vb.elements vq.elements (sym h.is_sum ∙ k.is_sum) in
       let spanned : InSpan F n (rows_into F space degree) (combination F n (plus_scaled F (F.neg 1) cs ds) zs) =
-        subst (InSpan F n (rows_into F space degree)) (sym less ∙ combination-plus F L n (F.neg 1) cs ds zs m h.elements.long k.elements.long)
-        (span_plus F L n (F.neg 1) (rows_into F space degree) k.rest h.rest (rows_into-matrix degree) (coboundary-span degree k.rest k.coboundary) (coboundary-span degree h.rest h.coboundary)) in
+      subst (InSpan F n (rows_into F space degree)) (sym less ∙ combination-plus F L n (F.neg 1) cs ds zs m h.elements.long k.elements.long)
+      (span_plus F L n (F.neg 1) (rows_into F space degree) k.rest h.rest (rows_into-matrix degree) (coboundary-span degree k.rest k.coboundary) (coboundary-span degree h.rest h.coboundary)) in
       let vd = plus_scaled-vector F L (length zs) (F.neg 1) cs ds h.elements k.elements in
       let none = b.unique (plus_scaled F (F.neg 1) cs ds) vd (subst (λ (l : ℕ). InSpan F l (rows_into F space degree) (combination F l (plus_scaled F (F.neg 1) cs ds) zs)) (sym (length-rows_of degree)) spanned) in
       none_left cs ds (h.elements.long ∙ sym k.elements.long) h.elements.elements k.elements.elements (none ∙ ap (λ l. replicate l 0) (sym h.elements.long))
@@ -155,13 +152,15 @@ module _ (F : Ops) (L : IsField F) (space : List (List (List ℕ))) where
     cocycles = kernels-cocycles degree zs b.cocycles;
     spans = λ z h.
         let r = b.spans z (cocycle-kernel degree z h) in
-        let l = length-rows_of degree in
-        (r.0, record {
-          elements = r.2;
-          rest = r.1;
-          coboundary = span-coboundary degree r.1 (subst (λ (n : ℕ). InSpan F n (rows_into F space degree) r.1) l r.3);
-          is_sum = r.4 ∙ ap (λ n. plus_scaled F 1 r.1 (combination F n r.0 zs)) l;
-        });
+        let l = length-rows_of degree in (
+          r.0,
+          record {
+            elements = r.2;
+            rest = r.1;
+            coboundary = span-coboundary degree r.1 (subst (λ (n : ℕ). InSpan F n (rows_into F space degree) r.1) l r.3);
+            is_sum = r.4 ∙ ap (λ n. plus_scaled F 1 r.1 (combination F n r.0 zs)) l;
+          },
+        );
     unique = coefficients_same degree zs b;
   }
 
@@ -169,13 +168,14 @@ module _ (F : Ops) (L : IsField F) (space : List (List (List ℕ))) where
 
   twice_zero : (degree : ℕ) (bs : List (List ℕ))
       → AllByRecursion (λ r. combination F (length (chains_of space (suc (suc degree)))) r (rows_of F space (suc degree)) ≡ replicate (length (chains_of space (suc (suc degree)))) 0)
-        (map (λ b. coboundary F space degree (mark (chains_of space degree) b)) bs)
+      (map (λ b. coboundary F space degree (mark (chains_of space degree) b)) bs)
   twice_zero degree [] = tt
   twice_zero degree (b ∷ bs) =
-      let r : List ℕ = coboundary F space degree (mark (chains_of space degree) b) in
-      (sym (coboundary-combination (suc degree) r (coboundary_on-vector F L (chains_of space degree) (chains_of space (suc degree)) (mark (chains_of space degree) b)))
-      ∙ coboundary-coboundary F L space degree (mark (chains_of space degree) b),
-      twice_zero degree bs)
+      let r : List ℕ = coboundary F space degree (mark (chains_of space degree) b) in (
+        sym (coboundary-combination (suc degree) r (coboundary_on-vector F L (chains_of space degree) (chains_of space (suc degree)) (mark (chains_of space degree) b)))
+            ∙ coboundary-coboundary F L space degree (mark (chains_of space degree) b),
+        twice_zero degree bs,
+      )
 
   pub composition_is_zero : (degree : ℕ) → AllByRecursion (λ r. combination F (length (chains_of space (suc degree))) r (rows_of F space degree) ≡ replicate (length (chains_of space (suc degree))) 0) (rows_into F space degree)
   composition_is_zero zero = tt

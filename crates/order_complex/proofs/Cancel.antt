@@ -132,8 +132,8 @@ signed-all number w (b ∷ bs) f =
     ap (λ t. (sign_of (cond t false (not (stands_odd ns n))) *ℤ w b) +ℤ total (map (λ c. sign_of (stands_odd (n ∷ ns) (number c)) *ℤ w c) bs)) (eq-eqb n n refl)
     ∙ ap (λ x. x +ℤ total (map (λ c. sign_of (stands_odd (n ∷ ns) (number c)) *ℤ w c) bs)) (plus_one (w b))
     ∙ ap (λ x. w b +ℤ x)
-      (total-neg (λ c. sign_of (stands_odd (n ∷ ns) (number c)) *ℤ w c) (λ c. sign_of (stands_odd ns (number c)) *ℤ w c) bs
-        (λ c m. ap (λ t. sign_of (cond t false (not (stands_odd ns (number c)))) *ℤ w c) (differs n (number c) (eqb n (number c)) refl (smaller bs f.0 c m)) ∙ sign_flips (stands_odd ns (number c)) (w c)))
+    (total-neg (λ c. sign_of (stands_odd (n ∷ ns) (number c)) *ℤ w c) (λ c. sign_of (stands_odd ns (number c)) *ℤ w c) bs
+    (λ c m. ap (λ t. sign_of (cond t false (not (stands_odd ns (number c)))) *ℤ w c) (differs n (number c) (eqb n (number c)) refl (smaller bs f.0 c m)) ∙ sign_flips (stands_odd ns (number c)) (w c)))
     ∙ ap (λ x. w b +ℤ neg_ℤ x) (signed-all number w bs f.1)
   where
     smaller : (cs : List (List ℕ)) → AllByRecursion (λ m. m < number b) (map number cs) → (c : List ℕ) → Member c cs → number b ≢ number c
@@ -171,17 +171,18 @@ module _ (space : List (List (List ℕ))) (degree : ℕ) (chain : List ℕ) (h :
       total-reverse (term facets outer inner target) (map numbers bs)
       ∙ ap total (map_map (term facets outer inner target) numbers bs)
       ∙ total-members (λ b. term facets outer inner target (numbers b)) (λ b. sign_of (stands_odd (map numbers bs) (numbers b)) *ℤ w b) bs
-        (λ b m. one b (leave_out-member space (suc degree) chain h b m))
+      (λ b m. one b (leave_out-member space (suc degree) chain h b m))
       ∙ signed-all numbers w bs (numbers-fall space (suc degree) chain h)
       ∙ twice_around (λ x. delta target (lower x)) chain
     where
       map_map : (g : ℕ → ℤ) (f : List ℕ → ℕ) (xs : List (List ℕ)) → map g (map f xs) ≡ map (λ x. g (f x)) xs
       map_map g f [] = refl
       map_map g f (x ∷ xs) = ap (λ r. g (f x) ∷ r) (map_map g f xs)
+
       one : (b : List ℕ) → Member b (chains_of space (suc degree))
           → cond (holds (facets (number_or_zero (chains_of space (suc degree)) b)) target) (sign_of (outer (number_or_zero (chains_of space (suc degree)) b)) *ℤ sign_of (inner (number_or_zero (chains_of space (suc degree)) b))) (pos 0)
           ≡ sign_of (stands_odd (map (number_or_zero (chains_of space (suc degree))) (leave_out chain)) (number_or_zero (chains_of space (suc degree)) b))
-            *ℤ alternating_sum (map (λ x. delta target (number_or_zero (chains_of space degree) x)) (leave_out b))
+          *ℤ alternating_sum (map (λ x. delta target (number_or_zero (chains_of space degree) x)) (leave_out b))
       one b m =
           let n : ℕ = number_or_zero (chains_of space (suc degree)) b in
           let ms : List ℕ = map (number_or_zero (chains_of space degree)) (leave_out b) in
@@ -228,16 +229,16 @@ module _ (space : List (List (List ℕ))) where
 
   cancels : (degree cell target : ℕ) → 1 ≤ cell → cell ≤ length (chains_of space (suc (suc degree)))
       → total (map (term (λ f. get_or (facet_lists space (suc degree)) (f - 1) []) (negative_in space (suc (suc degree)) cell) (λ f. negative_in space (suc degree) f target) target)
-        (get_or (facet_lists space (suc (suc degree))) (cell - 1) [])) ≡ pos 0
+      (get_or (facet_lists space (suc (suc degree))) (cell - 1) [])) ≡ pos 0
   cancels degree cell target first last =
       let chain : List ℕ = get_or (chains_of space (suc (suc degree))) (cell - 1) [] in
       let place : cell - 1 < length (chains_of space (suc (suc degree))) = omega arith in
       let t : ℕ → ℤ = term (λ f. get_or (facet_lists space (suc degree)) (f - 1) []) (negative_in space (suc (suc degree)) cell) (λ f. negative_in space (suc degree) f target) target in
       ap (λ fs. total (map t fs)) (facets-at (suc degree) (cell - 1) place)
       ∙ cancelled space degree chain (member-at (chains_of space (suc (suc degree))) (cell - 1) [] place) target
-        (λ f. get_or (facet_lists space (suc degree)) (f - 1) []) (negative_in space (suc (suc degree)) cell) (λ f. negative_in space (suc degree) f target)
-        (number-facets degree) (λ f. refl)
-        (λ b m. ap (λ c. stands_odd (map (number_or_zero (chains_of space degree)) (leave_out c)) target) (number-there (suc degree) b m))
+      (λ f. get_or (facet_lists space (suc degree)) (f - 1) []) (negative_in space (suc (suc degree)) cell) (λ f. negative_in space (suc degree) f target)
+      (number-facets degree) (λ f. refl)
+      (λ b m. ap (λ c. stands_odd (map (number_or_zero (chains_of space degree)) (leave_out c)) target) (number-there (suc degree) b m))
 
   length-facet_lists : (degree : ℕ) → length (facet_lists space (suc degree)) ≡ length (chains_of space (suc degree))
   length-facet_lists degree = length-map (chains_of space (suc degree)) (facet_numbers (chains_of space degree))

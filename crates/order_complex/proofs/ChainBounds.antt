@@ -80,9 +80,9 @@ module _ (space : List (List (List ℕ))) where
       let below : List ℕ = facets_of_all space dim cells in
       subst Rises (sym (map-append (id_of space) (closure space dim below) (map (cell_at (suc dim)) cells)))
       (rises-append (map (id_of space) (closure space dim below)) (map (id_of space) (map (cell_at (suc dim)) cells))
-        (closure-rises dim below (facets_of_all-rise dim cells) (λ m k. (facets_of_all-range space dim cells m k).0))
-        (ids-rise (suc dim) cells h)
-        (λ x y m n. let a = lower dim below (facets_of_all-range space dim cells) x m in let b = top-ids (suc dim) cells first y n in omega (arith, a, b)))
+      (closure-rises dim below (facets_of_all-rise dim cells) (λ m k. (facets_of_all-range space dim cells m k).0))
+      (ids-rise (suc dim) cells h)
+      (λ x y m n. let a = lower dim below (facets_of_all-range space dim cells) x m in let b = top-ids (suc dim) cells first y n in omega (arith, a, b)))
 
   faces_of-rise : (dim n : ℕ) → Rises (faces_of space dim n)
   faces_of-rise zero n = tt
@@ -99,17 +99,17 @@ module _ (space : List (List (List ℕ))) where
       subst (IsRising (cell_count space)) (sym here) record {
         rises = rises-index (faces_of space x.dim x.number) (faces_of-rise x.dim x.number);
         within = all-index (λ a. (1 ≤ a) × (a ≤ cell_count space)) (faces_of space x.dim x.number)
-          (λ a m. let b = face-below space a id (omega arith) high (subst (Member a) (sym at) m) in (b.0, omega (arith, b.1, high)));
+            (λ a m. let b = face-below space a id (omega arith) high (subst (Member a) (sym at) m) in (b.0, omega (arith, b.1, high)));
       }
 
   -- each list of cells above is within the ids
   pub uppers-within : All (All (λ cell. (1 ≤ cell) × (cell ≤ length (uppers_of space)))) (uppers_of space)
   uppers-within =
       all-index (All (λ cell. (1 ≤ cell) × (cell ≤ length (uppers_of space)))) (uppers_of space) (λ list m.
-        let r = map-member (cells_with (all_faces space)) list (upto (length (all_faces space))) m in
-        subst (All (λ cell. (1 ≤ cell) × (cell ≤ length (uppers_of space)))) (sym r.2)
-        (all-index (λ cell. (1 ≤ cell) × (cell ≤ length (uppers_of space))) (cells_with (all_faces space) r.0)
-          (λ b k. let a = above-member space r.0 b k in (a.low, omega (arith, a.high, length-uppers_of space)))))
+      let r = map-member (cells_with (all_faces space)) list (upto (length (all_faces space))) m in
+      subst (All (λ cell. (1 ≤ cell) × (cell ≤ length (uppers_of space)))) (sym r.2)
+      (all-index (λ cell. (1 ≤ cell) × (cell ≤ length (uppers_of space))) (cells_with (all_faces space) r.0)
+      (λ b k. let a = above-member space r.0 b k in (a.low, omega (arith, a.high, length-uppers_of space)))))
 
   -- ---- chains
 
@@ -132,9 +132,9 @@ module _ (space : List (List (List ℕ))) where
   chains-walk degree = record {
     some = all-index (λ chain. 1 ≤ length chain) (chains_of space degree) (λ x m. let c = chains_of-member space degree x m in omega (arith, ap (λ (y : List ℕ). length y) c.is));
     first = all-index (λ chain. 1 ≤ get_or chain (length chain - 1) 0) (chains_of space degree)
-      (λ x m. let c = chains_of-member space degree x m in subst (λ (y : List ℕ). 1 ≤ get_or y (length y - 1) 0) (sym c.is) (last-within c.first c.rest c.low c.high c.follows).0);
+        (λ x m. let c = chains_of-member space degree x m in subst (λ (y : List ℕ). 1 ≤ get_or y (length y - 1) 0) (sym c.is) (last-within c.first c.rest c.low c.high c.follows).0);
     last = all-index (λ chain. get_or chain (length chain - 1) 0 ≤ length (uppers_of space)) (chains_of space degree)
-      (λ x m. let c = chains_of-member space degree x m in
+        (λ x m. let c = chains_of-member space degree x m in
         let w = last-within c.first c.rest c.low c.high c.follows in
         subst (λ (y : List ℕ). get_or y (length y - 1) 0 ≤ length (uppers_of space)) (sym c.is) (omega (arith, w.1, length-uppers_of space)));
   }

@@ -54,10 +54,11 @@ module _ (F : Ops) (L : IsField F) where
 
   pub coboundary_plus : (space : List (List (List ℕ))) (degree s : ℕ) (a b : List ℕ) → IsCoboundary F space degree a → IsCoboundary F space degree b → IsCoboundary F space degree (plus_scaled F s a b)
   coboundary_plus space zero s a b h k = rw (h, k) (zeros_plus F L (length (chains_of space 0)) s)
-  coboundary_plus space (suc degree) s a b h k =
-      (plus_scaled F s h.0 k.0,
-      plus_scaled-vector F L (length (chains_of space degree)) s h.0 k.0 h.1 k.1,
-      coboundary_on-plus_scaled s (chains_of space degree) (chains_of space (suc degree)) h.0 k.0 h.1 k.1 ∙ ap (λ x. plus_scaled F s x (coboundary F space degree k.0)) h.2 ∙ ap (plus_scaled F s a) k.2)
+  coboundary_plus space (suc degree) s a b h k = (
+    plus_scaled F s h.0 k.0,
+    plus_scaled-vector F L (length (chains_of space degree)) s h.0 k.0 h.1 k.1,
+    coboundary_on-plus_scaled s (chains_of space degree) (chains_of space (suc degree)) h.0 k.0 h.1 k.1 ∙ ap (λ x. plus_scaled F s x (coboundary F space degree k.0)) h.2 ∙ ap (plus_scaled F s a) k.2,
+  )
 
   -- ---- sums of classes
 
@@ -117,9 +118,9 @@ module _ (F : Ops) (L : IsField F) where
           rest = plus_scaled F c g.rest h.rest;
           coboundary = coboundary_plus space degree c g.rest h.rest g.coboundary h.coboundary;
           is_sum =
-            ap (λ x. plus_scaled F c x z) g.is_sum ∙ ap (plus_scaled F c (plus_scaled F 1 g.rest (combination F N inner ws))) h.is_sum
-            ∙ interchange N c g.rest (combination F N inner ws) h.rest (combination F N t ws) a.long (combination-vector F L N inner ws mws).long b.long (combination-vector F L N t ws mws).long
-            ∙ ap (plus_scaled F 1 (plus_scaled F c g.rest h.rest)) (combination-plus F L N c inner t ws mws inner_vector.long h.elements.long);
+              ap (λ x. plus_scaled F c x z) g.is_sum ∙ ap (plus_scaled F c (plus_scaled F 1 g.rest (combination F N inner ws))) h.is_sum
+              ∙ interchange N c g.rest (combination F N inner ws) h.rest (combination F N t ws) a.long (combination-vector F L N inner ws mws).long b.long (combination-vector F L N t ws mws).long
+              ∙ ap (plus_scaled F 1 (plus_scaled F c g.rest h.rest)) (combination-plus F L N c inner t ws mws inner_vector.long h.elements.long);
         }
 
     pub table : (zs : List (List ℕ)) → AllByRecursion (λ z. (cs : List ℕ) × IsClass F space degree ws cs z) zs → Table zs
@@ -158,7 +159,7 @@ module _ (F : Ops) (L : IsField F) where
       let rest_vector = coboundary-vector space degree s.rest s.coboundary in
       let z : List ℕ = combination F N cs zs in
       let z_is_rest : z ≡ s.rest =
-        s.is_sum ∙ ap (λ x. plus_scaled F 1 s.rest (combination F N x ws)) none ∙ ap (plus_scaled F 1 s.rest) (combination-zeros F L N (length ws) ws mw) ∙ plus_zeros F L N s.rest rest_vector in
+      s.is_sum ∙ ap (λ x. plus_scaled F 1 s.rest (combination F N x ws)) none ∙ ap (plus_scaled F 1 s.rest) (combination-zeros F L N (length ws) ws mw) ∙ plus_zeros F L N s.rest rest_vector in
       let z_vector = combination-vector F L N cs zs mz in
       let one : IsClass F space degree zs cs z = record {
         elements = cs_vector;

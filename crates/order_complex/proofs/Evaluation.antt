@@ -14,14 +14,11 @@ use Rattle.linear_algebra.proofs.Adjoint.{adjoint}
 use Rattle.order_complex.specs.Chains.{chains_of}
 use Rattle.order_complex.specs.Cochains.{mark, coboundary_at, coboundary_on, boundary_on, evaluation}
 use Rattle.order_complex.specs.Order.{IsOrdered}
+use Rattle.order_complex.specs.Ranks.{rows_on}
 use Rattle.order_complex.proofs.Rows.{coboundary_at_is_linear}
 use Rattle.order_complex.proofs.Classes.{coboundary_on-vector}
 use Rattle.order_complex.proofs.Ordered.{ordered-differ}
 use Rattle.order_complex.proofs.Twice.{bytes_eq-refl, bytes_eq-true}
-
--- the rows of the coboundary: what the coboundary of the mark of each chain takes on the chains of one degree more
-abbrev pub rows_on : Ops → (chains next : List (List ℕ)) → List (List ℕ)
-rows_on F chains next = map (λ b. coboundary_on F chains next (mark chains b)) chains
 
 map_map : {A B C : Type 0} (g : B → C) (f : A → B) (xs : List A) → map g (map f xs) ≡ map (λ x. g (f x)) xs
 map_map g f [] = refl
@@ -86,10 +83,10 @@ module _ (F : Ops) (L : IsField F) where
           ∙ entry_combination F L n j x rows (marks-matrix chains chains) l
           ∙ ap (dot F x) (marks-column chains j l)
           ∙ dot_unit F L x units j v.elements (omega (arith, v.long)) (omega (arith, length-map chains (λ b. cond {A = ℕ} (bytes_eq cj b) 1 0)))
-            (get_or-map (λ b. cond {A = ℕ} (bytes_eq cj b) 1 0) chains j [] 0 l ∙ ap (λ t. cond t 1 0) (bytes_eq-refl cj))
-            (λ i k ne. let ik : i < length chains = omega (arith, k, length-map chains (λ b. cond {A = ℕ} (bytes_eq cj b) 1 0)) in
-              get_or-map (λ b. cond {A = ℕ} (bytes_eq cj b) 1 0) chains i [] 0 ik
-              ∙ ap (λ t. cond t 1 0) (bytes_differ cj (get_or chains i []) (bytes_eq cj (get_or chains i [])) refl (ordered-differ chains j i o l ik (λ e. ne (sym e)))))
+          (get_or-map (λ b. cond {A = ℕ} (bytes_eq cj b) 1 0) chains j [] 0 l ∙ ap (λ t. cond t 1 0) (bytes_eq-refl cj))
+          (λ i k ne. let ik : i < length chains = omega (arith, k, length-map chains (λ b. cond {A = ℕ} (bytes_eq cj b) 1 0)) in
+          get_or-map (λ b. cond {A = ℕ} (bytes_eq cj b) 1 0) chains i [] 0 ik
+          ∙ ap (λ t. cond t 1 0) (bytes_differ cj (get_or chains i []) (bytes_eq cj (get_or chains i [])) refl (ordered-differ chains j i o l ik (λ e. ne (sym e)))))
           ∙ get_or_default x j 0 d (omega (arith, v.long))
 
   -- the coboundary is the combination of its rows

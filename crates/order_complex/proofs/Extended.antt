@@ -47,7 +47,7 @@ flat_map-cons-map uppers c [] some = refl
 flat_map-cons-map uppers c (t ∷ chains) some =
     let s = some t (inl refl) in
     let one : extensions uppers (c ∷ t) ≡ map (λ chain. c ∷ chain) (extensions uppers t) =
-      ap (λ u. extensions uppers (c ∷ u)) s.2 ∙ sym (extensions-cons uppers c s.0 s.1) ∙ ap (λ u. map (λ chain. c ∷ chain) (extensions uppers u)) (sym s.2) in
+    ap (λ u. extensions uppers (c ∷ u)) s.2 ∙ sym (extensions-cons uppers c s.0 s.1) ∙ ap (λ u. map (λ chain. c ∷ chain) (extensions uppers u)) (sym s.2) in
     flat_map-cons (extensions uppers) (c ∷ t) (map (λ chain. c ∷ chain) chains)
     ∙ ap (λ r. r ++ flat_map (extensions uppers) (map (λ chain. c ∷ chain) chains)) one
     ∙ ap (λ r. map (λ chain. c ∷ chain) (extensions uppers t) ++ r) (flat_map-cons-map uppers c chains (λ u m. some u (inr m)))
@@ -75,9 +75,9 @@ module _ (space : List (List (List ℕ))) where
   from-extended (suc more) c low high =
       flat_map-cons-map (uppers_of space) c (flat_map (chains_from faces more) (above faces c)) (λ t m. nonempty t m)
       ∙ ap (map (λ chain. c ∷ chain))
-        (flat_map-flat_map (extensions (uppers_of space)) (chains_from faces more) (above faces c)
-        ∙ flat_map-members (λ b. flat_map (extensions (uppers_of space)) (chains_from faces more b)) (chains_from faces (suc more)) (above faces c)
-          (λ b m. let a = above-member space c b m in from-extended more b a.low a.high))
+      (flat_map-flat_map (extensions (uppers_of space)) (chains_from faces more) (above faces c)
+      ∙ flat_map-members (λ b. flat_map (extensions (uppers_of space)) (chains_from faces more b)) (chains_from faces (suc more)) (above faces c)
+      (λ b m. let a = above-member space c b m in from-extended more b a.low a.high))
     where
       nonempty : (t : List ℕ) → Member t (flat_map (chains_from faces more) (above faces c)) → (y : ℕ) × (ys : List ℕ) × (t ≡ y ∷ ys)
       nonempty t m =
@@ -88,7 +88,7 @@ module _ (space : List (List (List ℕ))) where
   chains_of-next degree =
       flat_map-flat_map (extensions (uppers_of space)) (chains_from faces degree) (upto (length faces))
       ∙ flat_map-members (λ c. flat_map (extensions (uppers_of space)) (chains_from faces degree c)) (chains_from faces (suc degree)) (upto (length faces))
-        (λ c m. let b = upto-member (length faces) c m in from-extended degree c b.0 (omega (arith, b.1, length-all_faces space)))
+      (λ c m. let b = upto-member (length faces) c m in from-extended degree c b.0 (omega (arith, b.1, length-all_faces space)))
 
   pub chains_of-zero : chains_of space 0 ≡ map (λ c. c ∷ []) (upto (cell_count space))
   chains_of-zero = flat_map_single (λ c. c ∷ []) (upto (length faces)) ∙ ap (λ n. map (λ c. c ∷ []) (upto n)) (length-all_faces space)
@@ -110,8 +110,8 @@ module _ (space : List (List (List ℕ))) where
   counts_of-next more =
       map_map (λ cells. sum_by (λ cell. get_or (counts_of more) (cell - 1) 0) cells) (cells_with faces) (upto (length faces))
       ∙ map-members (λ c. sum_by (λ cell. get_or (counts_of more) (cell - 1) 0) (above faces c)) (λ c. length (chains_from faces (suc more) c)) (upto (length faces))
-        (λ c m. sum_by-members (λ cell. get_or (counts_of more) (cell - 1) 0) (λ b. length (chains_from faces more b)) (above faces c) (λ b k. at b (above-member space c b k))
-          ∙ sym (length-map (flat_map (chains_from faces more) (above faces c)) (λ chain. c ∷ chain) ∙ length-flat_map (chains_from faces more) (above faces c)))
+      (λ c m. sum_by-members (λ cell. get_or (counts_of more) (cell - 1) 0) (λ b. length (chains_from faces more b)) (above faces c) (λ b k. at b (above-member space c b k))
+      ∙ sym (length-map (flat_map (chains_from faces more) (above faces c)) (λ chain. c ∷ chain) ∙ length-flat_map (chains_from faces more) (above faces c)))
     where
       at : (b : ℕ) {c : ℕ} → IsAbove space c b → get_or (counts_of more) (b - 1) 0 ≡ length (chains_from faces more b)
       at b a = get_or-map-range_with_len (λ c. length (chains_from faces more c)) 1 (length faces) (b - 1) b 0 (omega (arith, a.low, a.high, length-all_faces space)) (omega (arith, a.low))

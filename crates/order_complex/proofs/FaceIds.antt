@@ -116,9 +116,9 @@ module _ (space : List (List (List ℕ))) where
       ∙ at_part (part 0 ++ part 1) (part 3 ++ []) 2 n (cells_before space 2) d low high (length-append (part 0) (part 1) ∙ omega (arith, length-part 0, length-part 1))
   at_id (suc (suc (suc zero))) n d small low high =
       ap (λ cs. get_or cs ((cells_before space 3 + n) - 1) d)
-        (all_cells-parts ∙ sym (append_assoc (part 0) (part 1) (part 2 ++ (part 3 ++ []))) ∙ sym (append_assoc (part 0 ++ part 1) (part 2) (part 3 ++ [])))
+      (all_cells-parts ∙ sym (append_assoc (part 0) (part 1) (part 2 ++ (part 3 ++ []))) ∙ sym (append_assoc (part 0 ++ part 1) (part 2) (part 3 ++ [])))
       ∙ at_part (part 0 ++ part 1 ++ part 2) [] 3 n (cells_before space 3) d low high
-        (length-append (part 0 ++ part 1) (part 2) ∙ omega (arith, length-append (part 0) (part 1), length-part 0, length-part 1, length-part 2))
+      (length-append (part 0 ++ part 1) (part 2) ∙ omega (arith, length-append (part 0) (part 1), length-part 0, length-part 1, length-part 2))
   at_id (suc (suc (suc (suc dim)))) n d small low high = absurd (omega arith)
 
   -- a number up to the number of cells is the id of a cell
@@ -138,12 +138,12 @@ module _ (space : List (List (List ℕ))) where
       elim (dec_lt (cells_before space 1) id) [
         | no a ↦ cell_in id 0 (lit≤ tt) (omega arith) (omega arith)
         | yes a ↦ elim (dec_lt (cells_before space 2) id) [
-            | no b ↦ cell_in id 1 (lit≤ tt) a (omega arith)
-            | yes b ↦ elim (dec_lt (cells_before space 3) id) [
-                | no c ↦ cell_in id 2 (lit≤ tt) b (omega arith)
-                | yes c ↦ cell_in id 3 (lit≤ tt) c (omega arith)
-              ]
+          | no b ↦ cell_in id 1 (lit≤ tt) a (omega arith)
+          | yes b ↦ elim (dec_lt (cells_before space 3) id) [
+            | no c ↦ cell_in id 2 (lit≤ tt) b (omega arith)
+            | yes c ↦ cell_in id 3 (lit≤ tt) c (omega arith)
           ]
+        ]
       ]
 
   id_high : (dim n : ℕ) → dim ≤ 3 → n ≤ count space dim → cells_before space dim + n ≤ cell_count space

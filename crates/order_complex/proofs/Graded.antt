@@ -46,11 +46,11 @@ number-rises chains a b o ha hb less =
     elim (dec_lt p.place q.place) [
       | yes l ↦ omega (arith, p.number, q.number)
       | no g ↦ absurd (elim (dec_lt q.place p.place) [
-          | yes l ↦ before-self a (before-trans a b a less (subst (λ x. Before x a) q.there (subst (λ x. Before (get_or chains q.place []) x) p.there (ordered-at chains q.place p.place o l p.within))))
-          | no h ↦
-              let same : p.place ≡ q.place = omega arith in
-              before-self b (subst (λ x. Before x b) (sym p.there ∙ ap (λ i. get_or chains i []) same ∙ q.there) less)
-        ])
+        | yes l ↦ before-self a (before-trans a b a less (subst (λ x. Before x a) q.there (subst (λ x. Before (get_or chains q.place []) x) p.there (ordered-at chains q.place p.place o l p.within))))
+        | no h ↦
+            let same : p.place ≡ q.place = omega arith in
+            before-self b (subst (λ x. Before x b) (sym p.there ∙ ap (λ i. get_or chains i []) same ∙ q.there) less)
+      ])
     ]
 
 -- ---- one entry left out: a later entry gives an earlier sequence
@@ -162,8 +162,8 @@ module _ (space : List (List (List ℕ))) where
   all-map : (below : ℕ) (degree : ℕ) → below ≡ length (chains_of space degree) → All (IsCell below) (facet_lists space (suc degree))
   all-map below degree e =
       all-index (IsCell below) (facet_lists space (suc degree)) (λ x m.
-        let r = map-member (facet_numbers (chains_of space degree)) x (chains_of space (suc degree)) m in
-        subst (λ n. IsCell n x) (sym e) (subst (IsCell (length (chains_of space degree))) (sym r.2) (facets-are degree r.0 r.1)))
+      let r = map-member (facet_numbers (chains_of space degree)) x (chains_of space (suc degree)) m in
+      subst (λ n. IsCell n x) (sym e) (subst (IsCell (length (chains_of space degree))) (sym r.2) (facets-are degree r.0 r.1)))
 
   length-facet_lists : (degree : ℕ) → length (facet_lists space degree) ≡ length (chains_of space degree)
   length-facet_lists zero = length-map (chains_of space 0) (λ chain. [])

@@ -6,10 +6,7 @@ use Rattle.std.proofs.lemmas.Bool.{eqb-true, eq-eqb}
 use native.Mathlib.Decide.{dec_lt}
 use Prim.{yes, no}
 use Rattle.face_poset.specs.Words.{upto, holds}
-
-abbrev pub Member : {A : Type 0} → A → List A → Type 0
-Member x [] = ⊥
-Member x (y ∷ ys) = (x ≡ y) ⊎ Member x ys
+pub use Rattle.order_complex.specs.Sequences.{Member}
 
 -- each member of the first list is one of the second
 abbrev pub Within : {A : Type 0} → List A → List A → Type 0

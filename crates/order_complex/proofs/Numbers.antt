@@ -58,8 +58,8 @@ pub leave_out-places : (chain : List ℕ) → leave_out chain ≡ map (without c
 leave_out-places [] = refl
 leave_out-places (c ∷ cs) =
     ap (λ r. cs ∷ r)
-      (ap (map (λ chain. c ∷ chain)) (leave_out-places cs) ∙ map_map (λ chain. c ∷ chain) (without cs) (range_with_len 0 (length cs))
-      ∙ sym (map-range_suc (without (c ∷ cs)) (λ i. c ∷ without cs i) (λ i. next i) 0 (length cs)))
+    (ap (map (λ chain. c ∷ chain)) (leave_out-places cs) ∙ map_map (λ chain. c ∷ chain) (without cs) (range_with_len 0 (length cs))
+    ∙ sym (map-range_suc (without (c ∷ cs)) (λ i. c ∷ without cs i) (λ i. next i) 0 (length cs)))
   where
     next : (i : ℕ) → without (c ∷ cs) (i + 1) ≡ c ∷ without cs i
     next i = at (i + 1) (i + 1 + 1) (omega arith) (omega arith)

@@ -43,9 +43,10 @@ module _ (F : Ops) (L : IsField F) where
     where
       next : List (List ℕ)
       next = chains_of space (suc degree)
+
       at : (c : List ℕ) → Member c (chains_of space (suc (suc degree))) → coboundary_at F (chains_of space (suc degree)) (coboundary F space degree x) c ≡ 0
       at c h =
           ap (alternating F)
-            (map-members (value (chains_of space (suc degree)) (coboundary F space degree x)) (around F (value (chains_of space degree) x)) (leave_out c)
-            (λ b m. value-map (coboundary_at F (chains_of space degree) x) (chains_of space (suc degree)) b (leave_out-member space (suc degree) c h b m)))
+          (map-members (value (chains_of space (suc degree)) (coboundary F space degree x)) (around F (value (chains_of space degree) x)) (leave_out c)
+          (λ b m. value-map (coboundary_at F (chains_of space degree) x) (chains_of space (suc degree)) b (leave_out-member space (suc degree) c h b m)))
           ∙ around-around F L (value (chains_of space degree) x) c

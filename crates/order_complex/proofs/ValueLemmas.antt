@@ -114,8 +114,8 @@ module _ (F : Ops) (space : List (List (List ℕ))) where
           ap (λ fs. alternating F (map (λ n. get_or x (n - 1) 0) (reverse fs))) (complex-facets space degree cell small first high)
           ∙ ap (λ ns. alternating F (map (λ n. get_or x (n - 1) 0) ns)) (reverse-reverse (map (number_or_zero chains) (leave_out chain)))
           ∙ ap (alternating F) (map_map (λ n. get_or x (n - 1) 0) (number_or_zero chains) (leave_out chain)
-            ∙ map-members (λ b. get_or x (number_or_zero chains b - 1) 0) (value chains x) (leave_out chain)
-              (λ b k. value-member chains x b space degree refl l (leave_out-member space degree chain m b k)))
+          ∙ map-members (λ b. get_or x (number_or_zero chains b - 1) 0) (value chains x) (leave_out chain)
+          (λ b k. value-member chains x b space degree refl l (leave_out-member space degree chain m b k)))
 
   -- the facets are numbers of chains of one degree less
   pub facet-range : (degree cell i : ℕ) → degree ≤ 2 → 1 ≤ cell → cell ≤ length (chains_of space (degree + 1)) → i < length (facets_of (complex_of space) (degree + 1) cell)

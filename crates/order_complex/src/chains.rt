@@ -6,8 +6,8 @@ ghost use Rattle.order_complex.specs.Order.{IsOrdered};
 ghost use Rattle.order_complex.specs.Chains.{chains_of, chain_count};
 ghost use Rattle.order_complex.specs.Complex.{complex_of, facet_layers, last_of, negative_in, position_of, stands_odd, HasId, IsRefused};
 
-use crate::facets::{facets_in, without_facets};
 use crate::faces::cell_of_id;
+use crate::facets::{facets_in, without_facets};
 use crate::fault::ChainFault;
 use crate::layers::Layers;
 use crate::searching::find_chain;
@@ -39,8 +39,7 @@ impl<'a> Model for Chains<'a> {
     ghost view = { λ s. s.space.now };
 
     ghost invariant = { λ s.
-        (s.chains ≡ chain_layers s.space.now) × (s.facets ≡ complex_of s.space.now) × (s.cofaces ≡ coface_layers (complex_of s.space.now)) × (chain_count s.space.now ≤ 4294967295)
-    };
+        (s.chains ≡ chain_layers s.space.now) × (s.facets ≡ complex_of s.space.now) × (s.cofaces ≡ coface_layers (complex_of s.space.now)) × (chain_count s.space.now ≤ 4294967295) };
 }
 
 /// The facets of the chains of each degree, by their numbers.
@@ -65,12 +64,7 @@ fn list_cofaces(alloc: Global, facets: &Layers) -> Result<Layers, AllocError>
     let above_edges = cofaces_in(alloc, facets.layer(1).len(), facets.layer(2))?;
     let above_triangles = cofaces_in(alloc, facets.layer(2).len(), facets.layer(3))?;
     let above_tetrahedra = cofaces_in(alloc, facets.layer(3).len(), &Lists::new(alloc))?;
-    Ok(Layers::new(
-        above_points,
-        above_edges,
-        above_triangles,
-        above_tetrahedra,
-    ))
+    Ok(Layers::new(above_points, above_edges, above_triangles, above_tetrahedra))
 }
 
 impl<'a> Chains<'a> {

@@ -6,6 +6,7 @@ mod cochain;
 mod faces;
 mod facets;
 mod fault;
+mod laws;
 mod layers;
 mod listing;
 mod searching;
@@ -15,3 +16,10 @@ mod values;
 pub use chains::Chains;
 pub use cochain::Cochain;
 pub use fault::ChainFault;
+pub use laws::{
+    betti_by_ranks, betti_is_one_number, chains_are_ordered, chains_are_sequences,
+    coboundaries_are_closed, coboundary_is_adjoint,
+};
+
+#[cfg(test)]
+mod tests;

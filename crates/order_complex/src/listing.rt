@@ -102,7 +102,9 @@ pub fn count_chains(alloc: Global, uppers: &Lists) -> Result<u64, AllocError>
     let twos = counted(alloc, &ones, uppers)?;
     let threes = counted(alloc, &twos, uppers)?;
     let fours = counted(alloc, &threes, uppers)?;
-    let low = total_of(&ones)?.checked_add(total_of(&twos)?).ok_or(AllocError)?;
+    let low = total_of(&ones)?
+        .checked_add(total_of(&twos)?)
+        .ok_or(AllocError)?;
     let middle = low.checked_add(total_of(&threes)?).ok_or(AllocError)?;
     middle.checked_add(total_of(&fours)?).ok_or(AllocError)
 }

@@ -40,14 +40,7 @@ impl<'a> Chains<'a> {
 
     /// The product of x on the first i + 1 cells of a chain of degree i + j, which is numbered from 1, and y on its last
     /// j + 1 cells.
-    pub fn cup_at<F: Field>(
-        &self,
-        i: u8,
-        x: &Cochain<F>,
-        j: u8,
-        y: &Cochain<F>,
-        chain: u32,
-    ) -> F
+    pub fn cup_at<F: Field>(&self, i: u8, x: &Cochain<F>, j: u8, y: &Cochain<F>, chain: u32) -> F
         requires degree { i + j ≤ 3 }
         requires left { length x.now ≡ length (chains_of self.now i) }
         requires right { length y.now ≡ length (chains_of self.now j) }

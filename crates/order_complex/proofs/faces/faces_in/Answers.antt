@@ -10,5 +10,5 @@ returns-clause-faces c =
     let F : ℕ → List (List ℕ) = λ dim. map (faces_of c.args.space.now dim) (upto (count c.args.space.now dim)) in
     c.in_ok-push_faces-4.ensures
     ∙ ap (λ ls. ls ++ F 3)
-      (c.in_ok-push_faces-3.ensures ∙ ap (λ ls. ls ++ F 2) (c.in_ok-push_faces-2.ensures ∙ ap (λ ls. ls ++ F 1) (c.in_ok-push_faces.ensures ∙ ap (λ ls. ls ++ F 0) c.new-faces.ensures)))
+    (c.in_ok-push_faces-3.ensures ∙ ap (λ ls. ls ++ F 2) (c.in_ok-push_faces-2.ensures ∙ ap (λ ls. ls ++ F 1) (c.in_ok-push_faces.ensures ∙ ap (λ ls. ls ++ F 0) c.new-faces.ensures)))
     ∙ sym (all_faces-parts c.args.space.now)

@@ -12,9 +12,9 @@ go_right : (chains : List (List ℕ)) (ids : List ℕ) (low high middle : ℕ) �
 go_right chains ids low high middle o n lt b = record {
   within = n.within;
   left = λ i l. elim (dec_lt i middle) [
-      | yes a ↦ before-trans (get_or chains i []) (get_or chains middle []) ids (ordered-at chains i middle o a (omega (arith, n.within))) b
-      | no a ↦ let same : middle ≡ i = omega arith in subst (λ j. Before (get_or chains j []) ids) same b
-    ];
+    | yes a ↦ before-trans (get_or chains i []) (get_or chains middle []) ids (ordered-at chains i middle o a (omega (arith, n.within))) b
+    | no a ↦ let same : middle ≡ i = omega arith in subst (λ j. Before (get_or chains j []) ids) same b
+  ];
   right = n.right;
 }
 
@@ -23,9 +23,9 @@ go_left chains ids low high middle o n lt b = record {
   within = omega (arith, n.within);
   left = n.left;
   right = λ i l m. elim (dec_lt middle i) [
-      | yes a ↦ before-trans ids (get_or chains middle []) (get_or chains i []) b (ordered-at chains middle i o a m)
-      | no a ↦ let same : middle ≡ i = omega arith in subst (λ j. Before ids (get_or chains j [])) same b
-    ];
+    | yes a ↦ before-trans ids (get_or chains middle []) (get_or chains i []) b (ordered-at chains middle i o a m)
+    | no a ↦ let same : middle ≡ i = omega arith in subst (λ j. Before ids (get_or chains j [])) same b
+  ];
 }
 
 nowhere : (chains : List (List ℕ)) (ids : List ℕ) (low high : ℕ) → Narrowed chains ids low high → high ≤ low → (i : ℕ) → i < length chains → get_or chains i [] ≢ ids

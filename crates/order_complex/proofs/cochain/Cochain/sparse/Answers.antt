@@ -18,11 +18,12 @@ one-entry false n x k l = All-cons (λ (e : ℕ × ℕ). e.0 ≤ k) (n, x) [] l 
 more : (xs : List ℕ) (i x : ℕ) (old now : List (ℕ × ℕ)) → i < length xs → x ≡ get_or xs i 0 → (old ≡ entries_from 1 (take i xs)) × All (λ (e : ℕ × ℕ). e.0 ≤ i) old → now ≡ old ++ entry_of (i + 1) x
     → (now ≡ entries_from 1 (take (i + 1) xs)) × All (λ (e : ℕ × ℕ). e.0 ≤ i + 1) now
 more xs i x old now l e h p =
-    let k : 1 + length (take i xs) ≡ i + 1 = omega (arith, length-take-le i xs (omega arith)) in
-    (p ∙ ap (λ es. es ++ entry_of (i + 1) x) h.0 ∙ ap (λ n. entries_from 1 (take i xs) ++ entry_of n x) (sym k) ∙ sym (entries-snoc 1 (take i xs) x)
-      ∙ ap (entries_from 1) (ap (λ y. take i xs ++ y ∷ []) e ∙ sym (take_more xs i 0 l)),
-    subst (All (λ (e : ℕ × ℕ). e.0 ≤ i + 1)) (sym p)
-      (All-append (λ (e : ℕ × ℕ). e.0 ≤ i + 1) old (entry_of (i + 1) x) (λ j d b. let w : (get_or old j d).0 ≤ i = h.1 j d b in omega arith) (one-entry (x == 0) (i + 1) x (i + 1) (omega arith))))
+    let k : 1 + length (take i xs) ≡ i + 1 = omega (arith, length-take-le i xs (omega arith)) in (
+      p ∙ ap (λ es. es ++ entry_of (i + 1) x) h.0 ∙ ap (λ n. entries_from 1 (take i xs) ++ entry_of n x) (sym k) ∙ sym (entries-snoc 1 (take i xs) x)
+          ∙ ap (entries_from 1) (ap (λ y. take i xs ++ y ∷ []) e ∙ sym (take_more xs i 0 l)),
+      subst (All (λ (e : ℕ × ℕ). e.0 ≤ i + 1)) (sym p)
+          (All-append (λ (e : ℕ × ℕ). e.0 ≤ i + 1) old (entry_of (i + 1) x) (λ j d b. let w : (get_or old j d).0 ≤ i = h.1 j d b in omega arith) (one-entry (x == 0) (i + 1) x (i + 1) (omega arith))),
+    )
 
 pub loop-index-preserved : goal.loop-index-preserved
 loop-index-preserved g c =
