@@ -2,16 +2,15 @@ ghost use Rattle.std.specs.Prelude.{◌≡◌, ◌-◌, ◌<◌, ◌≤◌, ◌=
 ghost use Rattle.face_poset.specs.Rooms.{HasRoom, AllGain};
 ghost use Rattle.std.specs.List.Sorted.{IsStrictlyIncreasing};
 ghost use Rattle.face_poset.specs.Words.{upto};
-ghost use Rattle.face_poset.specs.Poset.{IsCell};
-ghost use Rattle.face_poset.specs.Cofaces.{coface_lists};
+ghost use Rattle.face_poset.specs.Cofaces.{IsRising, coface_lists};
 
 use crate::lists::Lists;
 use crate::slots::Slots;
 use std::alloc::{AllocError, Global};
 
 /// For each of the facets 1 to `most` the cells that have it, in one pass over the cells.
-pub(crate) fn cofaces_in(alloc: Global, most: usize, cells: &Lists) -> Result<Lists, AllocError>
-    requires cells { All (IsCell most) cells.now }
+pub fn cofaces_in(alloc: Global, most: usize, cells: &Lists) -> Result<Lists, AllocError>
+    requires cells { All (IsRising most) cells.now }
     requires few { length cells.now ≤ 4294967295 }
     ensures { IfOk result (λ lists. lists ≡ coface_lists most cells.now) }
 {

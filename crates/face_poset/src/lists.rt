@@ -25,7 +25,7 @@ impl Model for Lists {
 
 impl Lists {
     /// No list.
-    pub(crate) fn new(alloc: Global) -> Lists
+    pub fn new(alloc: Global) -> Lists
         ensures { result ≡ [] }
     {
         Lists {
@@ -35,7 +35,7 @@ impl Lists {
     }
 
     /// The lists that the ends cut the entries into.
-    pub(crate) fn from_parts(ends: Vec<usize>, entries: Vec<u32>) -> Lists
+    pub fn from_parts(ends: Vec<usize>, entries: Vec<u32>) -> Lists
         requires { IsCut 0 ends.items (length entries.items) }
         ensures { result ≡ cut 0 ends.items entries.items }
     {
@@ -43,14 +43,14 @@ impl Lists {
     }
 
     /// How many lists there are.
-    pub(crate) fn len(&self) -> usize
+    pub fn len(&self) -> usize
         ensures { result ≡ length self.now }
     {
         self.ends.len()
     }
 
     /// The list at an index, counted from 0.
-    pub(crate) fn get(&self, index: usize) -> &[u32]
+    pub fn get(&self, index: usize) -> &[u32]
         requires { index < length self.now }
         ensures { result.now ≡ slice_index_or self.now index [] }
     {
@@ -58,14 +58,14 @@ impl Lists {
     }
 
     /// All entries, list by list.
-    pub(crate) fn entries(&self) -> &[u32]
+    pub fn entries(&self) -> &[u32]
         ensures { result.now ≡ concat self.now }
     {
         &self.entries
     }
 
     /// Puts a list last.
-    pub(crate) fn push(&mut self, list: &[u32]) -> Result<(), AllocError>
+    pub fn push(&mut self, list: &[u32]) -> Result<(), AllocError>
         ensures ok { OnOk result (self.new ≡ self.old ++ list.now ∷ []) }
         ensures err { OnErr result (self.new ≡ self.old) }
     {

@@ -6,16 +6,17 @@ use Rattle.std.proofs.lemmas.List.FromFn.{length-map-range_with_len, get_or-map-
 use Rattle.std.proofs.lemmas.List.Elements.{All-nil, All-append, All-tail}
 use Rattle.face_poset.specs.Words.{holds, upto}
 use Rattle.face_poset.specs.Rooms.{AllGain}
-use Rattle.face_poset.specs.Poset.{IsCell, cells_with}
+use Rattle.face_poset.specs.Poset.{cells_with}
+use Rattle.face_poset.specs.Cofaces.{IsRising}
 use Rattle.face_poset.specs.Cofaces.{coface_lists}
 use Rattle.face_poset.proofs.Members.{holds-from}
 use Rattle.face_poset.proofs.Counting.{times, times-concat, room_left, cells_with-push}
 use Rattle.face_poset.proofs.cofaces.cofaces_in.Goals as goal
 
 -- the facets of all cells are in range
-all_within : (most : ℕ) (cells : List (List ℕ)) → All (IsCell most) cells → All (λ n. (1 ≤ n) × (n ≤ most)) (concat cells)
+all_within : (most : ℕ) (cells : List (List ℕ)) → All (IsRising most) cells → All (λ n. (1 ≤ n) × (n ≤ most)) (concat cells)
 all_within most [] h = All-nil (λ n. (1 ≤ n) × (n ≤ most))
-all_within most (c ∷ cells) h = All-append (λ n. (1 ≤ n) × (n ≤ most)) c (concat cells) (h 0 [] (omega arith)).within (all_within most cells (All-tail (IsCell most) c cells h))
+all_within most (c ∷ cells) h = All-append (λ n. (1 ≤ n) × (n ≤ most)) c (concat cells) (h 0 [] (omega arith)).within (all_within most cells (All-tail (IsRising most) c cells h))
 
 -- one cell more
 more : (most : ℕ) (cells : List (List ℕ)) (i value : ℕ) (old new : List (List ℕ)) → i < length cells → value ≡ i + 1 → old ≡ coface_lists most (take i cells) → length new ≡ length old
@@ -48,10 +49,10 @@ none_yet most F rooms parts cells e h = h ∙ (ap (map {A = ℕ} {B = List ℕ} 
 rooms_are : (most : ℕ) (entries : List ℕ) (cells : List (List ℕ)) (rooms : List ℕ) → entries ≡ concat cells → rooms ≡ map (λ n. times n entries) (upto most) → rooms ≡ map (λ n. times n (concat cells)) (upto most)
 rooms_are most entries cells rooms e h = h ∙ ap (λ (xs : List ℕ). map (λ n. times n xs) (upto most)) e
 
-increasing : (most : ℕ) (cells : List (List ℕ)) → All (IsCell most) cells → All IsStrictlyIncreasing cells
+increasing : (most : ℕ) (cells : List (List ℕ)) → All (IsRising most) cells → All IsStrictlyIncreasing cells
 increasing most cells h k d l = (h k d l).rises
 
-room_for : (most : ℕ) (cells : List (List ℕ)) (i : ℕ) (facets : List ℕ) (parts : List (List ℕ)) (rooms : List ℕ) → All (IsCell most) cells → i < length cells
+room_for : (most : ℕ) (cells : List (List ℕ)) (i : ℕ) (facets : List ℕ) (parts : List (List ℕ)) (rooms : List ℕ) → All (IsRising most) cells → i < length cells
     → facets ≡ get_or cells i [] → parts ≡ coface_lists most (take i cells) → rooms ≡ map (λ n. times n (concat cells)) (upto most)
     → All (λ f. length (get_or parts (f - 1) []) < get_or rooms (f - 1) 0) facets
 room_for most cells i facets parts rooms h lt is ps rs k d l =
@@ -68,7 +69,7 @@ lengths : (G : ℕ → List ℕ) (F : ℕ → ℕ) → ((x : ℕ) → length (G 
 lengths G F h [] = refl
 lengths G F h (x ∷ xs) = ap (λ (n : ℕ). n ∷ map (λ part. length part) (map G xs)) (h x) ∙ ap (λ (ns : List ℕ). F x ∷ ns) (lengths G F h xs)
 
-full : (most : ℕ) (cells : List (List ℕ)) (i : ℕ) (parts : List (List ℕ)) (rooms : List ℕ) → All (IsCell most) cells → length cells ≤ i
+full : (most : ℕ) (cells : List (List ℕ)) (i : ℕ) (parts : List (List ℕ)) (rooms : List ℕ) → All (IsRising most) cells → length cells ≤ i
     → parts ≡ coface_lists most (take i cells) → rooms ≡ map (λ n. times n (concat cells)) (upto most) → map (λ part. length part) parts ≡ rooms
 full most cells i parts rooms h le ps rs =
     ap (map (λ part. length part)) (ps ∙ ap (coface_lists most) (take_all i cells le))
@@ -101,3 +102,15 @@ loop-index-preserved c =
 pub finish-requires : goal.finish-requires
 finish-requires c =
     full c.args.most c.args.cells.now c.loop-index.index c.loop-index.slots.parts c.loop-index.slots.rooms c.requires.cells (omega (arith, c.len-index-end.ensures)) c.loop-index.invariant.parts c.loop-index.invariant.rooms
+
+-- the list at the index is one of the lists
+one_of : (most : ℕ) (cells : List (List ℕ)) (i : ℕ) (facets : List ℕ) → All (IsRising most) cells → i < length cells → facets ≡ get_or cells i [] → IsRising most facets
+one_of most cells i facets h lt is = subst (IsRising most) (sym is) (h i [] lt)
+
+pub put_all-requires-clause-rises : goal.put_all-requires-clause-rises
+put_all-requires-clause-rises c =
+    (one_of c.args.most c.args.cells.now c.loop-index.index c.get.result.now c.requires.cells (omega (arith, c.len-index-end.ensures)) c.get.ensures).rises
+
+pub put_all-requires-clause-first : goal.put_all-requires-clause-first
+put_all-requires-clause-first c = λ k d l.
+    ((one_of c.args.most c.args.cells.now c.loop-index.index c.get.result.now c.requires.cells (omega (arith, c.len-index-end.ensures)) c.get.ensures).within k d l).0

@@ -1,0 +1,25 @@
+//! The order complex of a space.
+#![tactic(auto)]
+
+mod chains;
+mod cochain;
+mod faces;
+mod facets;
+mod fault;
+mod laws;
+mod layers;
+mod listing;
+mod searching;
+mod uppers;
+mod values;
+
+pub use chains::Chains;
+pub use cochain::Cochain;
+pub use fault::ChainFault;
+pub use laws::{
+    betti_by_ranks, betti_is_one_number, chains_are_ordered, chains_are_sequences,
+    coboundaries_are_closed, coboundary_is_adjoint,
+};
+
+#[cfg(test)]
+mod tests;
