@@ -85,10 +85,11 @@ module _ (k : Ops) (f : IsField k) where
     pub matrix : IsMatrix k n some
     pub independent : IsIndependent k n some
     pub spans : AllByRecursion (InSpan k n some) us
+    pub inside : AllByRecursion (InSpan k n us) some
     pub fewer : (some ≡ us) ⊎ (length some < length us)
 
   pub choose : (n : ℕ) (us : List (List ℕ)) → IsMatrix k n us → Chosen n us
-  choose n [] a = record { some = []; matrix = tt; independent = λ cs v e. no_coefficients cs v.long; spans = tt; fewer = inl refl }
+  choose n [] a = record { some = []; matrix = tt; independent = λ cs v e. no_coefficients cs v.long; spans = tt; inside = tt; fewer = inl refl }
   choose n (u ∷ us) a =
       let c : Chosen n us = choose n us a.1 in
       elim (in_span_or_not k f n c.some u c.matrix a.0 c.independent) [
@@ -97,6 +98,7 @@ module _ (k : Ops) (f : IsField k) where
           matrix = c.matrix;
           independent = c.independent;
           spans = (p, c.spans);
+          inside = span_all_more k f n us u a.1 a.0 c.some c.inside;
           fewer = inr (elim c.fewer [ inl e ↦ subst (λ (j : ℕ). j < suc (length us)) (sym (ap length e)) (omega arith) | inr l ↦ omega arith ]);
         }
         | inr i ↦ record {
@@ -104,6 +106,7 @@ module _ (k : Ops) (f : IsField k) where
           matrix = (a.0, c.matrix);
           independent = i;
           spans = ((span_rows k f n (u ∷ c.some) (a.0, c.matrix)).0, span_all_more k f n c.some u c.matrix a.0 us c.spans);
+          inside = ((span_rows k f n (u ∷ us) a).0, span_all_more k f n us u a.1 a.0 c.some c.inside);
           fewer = elim c.fewer [ inl e ↦ inl (ap (λ (vs : List (List ℕ)). u ∷ vs) e) | inr l ↦ inr (omega arith) ];
         }
       ]

@@ -1,11 +1,12 @@
 use Rattle.std.proofs.Common.{ℕ, ◌≤◌, List, length, arith}
 use Rattle.small_field.specs.Field.{Ops, IsField}
 use Rattle.linear_algebra.specs.Vectors.{IsBasis, InSpan}
-use Rattle.linear_algebra.specs.Laws.{BasesAreAsLong, RankIsDimension, CombinationLaws}
-use Rattle.linear_algebra.proofs.Span.{combination-vector, combination-zeros, combination-plus, span_rows}
+use Rattle.linear_algebra.specs.Laws.{BasesAreAsLong, RowsHaveABasis, RankIsDimension, CombinationLaws}
+use Rattle.linear_algebra.proofs.Span.{combination-vector, combination-zeros, combination-plus, span_rows, same_span}
 use Rattle.linear_algebra.proofs.Decide.{entry_combination}
 use Rattle.linear_algebra.proofs.Dimension.{combination_twice, no_more}
 use Rattle.linear_algebra.proofs.Betti.{all_weaker, in_span_trans, combination-append, rank_is_dimension}
+use Rattle.linear_algebra.proofs.Halves.{Chosen, choose}
 use Rattle.linear_algebra.proofs.Linear.{functional_of_combination}
 use Rattle.linear_algebra.proofs.Adjoint.{adjoint}
 use Rattle.linear_algebra.proofs.Bump.{dot_bumped}
@@ -42,3 +43,10 @@ module _ (k : Ops) (f : IsField k) where
     bumped = dot_bumped k f;
     span_is_transitive = in_span_trans k f;
   }
+
+  pub rows_have_a_basis : RowsHaveABasis k
+  rows_have_a_basis n rows a =
+      let c : Chosen k f n rows = choose k f n rows a in (
+        c.some,
+        record { matrix = c.matrix; independent = c.independent; span = same_span k f n rows c.some a c.matrix c.spans c.inside },
+      )

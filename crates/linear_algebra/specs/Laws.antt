@@ -15,6 +15,10 @@ MoreAreDependent k = (n : ℕ) (rows : List (List ℕ)) → IsMatrix k n rows �
 abbrev pub BasesAreAsLong : Ops → Type 0
 BasesAreAsLong k = (n : ℕ) (rows us vs : List (List ℕ)) → IsBasis k n rows us → IsBasis k n rows vs → length us ≡ length vs
 
+-- some independent vectors span what the rows span
+abbrev pub RowsHaveABasis : Ops → Type 0
+RowsHaveABasis k = (n : ℕ) (rows : List (List ℕ)) → IsMatrix k n rows → (basis : List (List ℕ)) × IsBasis k n rows basis
+
 -- the rank of a reduced form is the length of each basis of the rows
 abbrev pub RankIsDimension : Ops → Type 0
 RankIsDimension k = (n rank : ℕ) (rows reduced basis : List (List ℕ)) → IsMatrix k n rows → IsReducedTo k n rank n rows reduced → IsBasis k n rows basis → length basis ≡ rank

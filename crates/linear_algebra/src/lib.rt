@@ -5,7 +5,7 @@
 //! of such rows. Each law is the contract of a function with an empty body.
 #![tactic(auto)]
 
-ghost use Rattle.linear_algebra.specs.Laws.{MoreAreDependent, BasesAreAsLong, RankIsDimension, BasisByRanks, TrianglesAreIndependent, CombinationLaws};
+ghost use Rattle.linear_algebra.specs.Laws.{MoreAreDependent, BasesAreAsLong, RowsHaveABasis, RankIsDimension, BasisByRanks, TrianglesAreIndependent, CombinationLaws};
 
 use small_field::Field;
 
@@ -17,6 +17,11 @@ pub fn combination_laws<F: Field>()
 /// The dimension law: more than n vectors of n coordinates are dependent.
 pub fn more_are_dependent<F: Field>()
     ensures { MoreAreDependent F.ops }
+{}
+
+/// Each list of rows has a basis.
+pub fn rows_have_a_basis<F: Field>()
+    ensures { RowsHaveABasis F.ops }
 {}
 
 /// Two independent lists that span the same have the same length (Steinitz).

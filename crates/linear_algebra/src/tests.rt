@@ -5,6 +5,7 @@ use small_field::Gfp;
 fn ask<F: Field>() {
     combination_laws::<F>();
     more_are_dependent::<F>();
+    rows_have_a_basis::<F>();
     bases_are_as_long::<F>();
     rank_is_dimension::<F>();
     basis_by_ranks::<F>();
