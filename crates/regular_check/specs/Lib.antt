@@ -1,0 +1,4 @@
+pub mod Reach
+pub mod Rules
+pub mod Marks
+pub mod Tally
