@@ -15,3 +15,6 @@ mod tally;
 pub use fault::RegularFault;
 pub use laws::rounds_reach_what_steps_lead_to;
 pub use regular::{Regular, check};
+
+#[cfg(test)]
+mod tests;

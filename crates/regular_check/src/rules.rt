@@ -116,7 +116,9 @@ pub(crate) fn check_solids(
     requires room { count space.now 1 ≤ length tallies.old }
     requires most { count space.now 2 ≤ found.old.most }
     requires blank { IsBlank tallies.old }
-    ensures { MatchResult result (λ _. fault_in (flat_map (solid_rules space.now) (upto (count space.now 3))) ≡ None) (IsFault (fault_in (flat_map (solid_rules space.now) (upto (count space.now 3))))) }
+    ensures most { found.new.most ≡ found.old.most }
+    ensures blank { OnOk result (IsBlank tallies.new) }
+    ensures fault { MatchResult result (λ _. fault_in (flat_map (solid_rules space.now) (upto (count space.now 3))) ≡ None) (IsFault (fault_in (flat_map (solid_rules space.now) (upto (count space.now 3))))) }
 {
     for index in 0..space.cells(3) {
         check_solid(alloc, space, index + 1, tallies, found)?;

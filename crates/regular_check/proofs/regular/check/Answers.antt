@@ -45,10 +45,10 @@ returns-in_err-check_disks-clause-fault c =
 pub returns-in_err-check_solids-clause-fault : goal.returns-in_err-check_solids-clause-fault
 returns-in_err-check_solids-clause-fault c =
     let p = err_from_is_err_and c.from_residual-in_err-check_solids.result c.from_residual-in_err-check_solids.ensures.1 in
-    rw (p.1, p.2) (at_solids c.args.space.now c.in_err-check_solids.field-0.0 c.in_ok-check_edges.ensures c.in_ok-check_disks.ensures.fault c.in_err-check_solids.ensures)
+    rw (p.1, p.2) (at_solids c.args.space.now c.in_err-check_solids.field-0.0 c.in_ok-check_edges.ensures c.in_ok-check_disks.ensures.fault c.in_err-check_solids.ensures.fault)
 
 pub invariant_of-result : goal.invariant_of-result
-invariant_of-result c = none_at_all c.args.space.now c.in_ok-check_edges.ensures c.in_ok-check_disks.ensures.fault c.in_ok-check_solids.ensures
+invariant_of-result c = none_at_all c.args.space.now c.in_ok-check_edges.ensures c.in_ok-check_disks.ensures.fault c.in_ok-check_solids.ensures.fault
 
 pub returns-clause-fault : goal.returns-clause-fault
-returns-clause-fault c = none_at_all c.args.space.now c.in_ok-check_edges.ensures c.in_ok-check_disks.ensures.fault c.in_ok-check_solids.ensures
+returns-clause-fault c = none_at_all c.args.space.now c.in_ok-check_edges.ensures c.in_ok-check_disks.ensures.fault c.in_ok-check_solids.ensures.fault

@@ -7,8 +7,8 @@ use Rattle.regular_check.specs.Rules.{solid_rules, fault_in}
 use Rattle.regular_check.proofs.Faults.{layer_first, layer_none, kept_more, fault_moves}
 use Rattle.regular_check.proofs.rules.check_solids.Goals as goal
 
-pub returns-in_err-check_solid : goal.returns-in_err-check_solid
-returns-in_err-check_solid c =
+pub returns-in_err-check_solid-clause-fault : goal.returns-in_err-check_solid-clause-fault
+returns-in_err-check_solid-clause-fault c =
     let p = err_from_is_err_and c.from_residual.result c.from_residual.ensures.1 in
     rw (p.1, p.2)
     (fault_moves (fault_in (solid_rules c.args.space.now (c.loop-index.index + 1))) (fault_in (flat_map (solid_rules c.args.space.now) (upto (count c.args.space.now 3))))
@@ -19,6 +19,6 @@ pub loop-index-preserved : goal.loop-index-preserved
 loop-index-preserved c =
     (c.check_solid.ensures.most ∙ c.loop-index.invariant.0, c.in_ok-check_solid.ensures.blank, kept_more (solid_rules c.args.space.now) c.loop-index.index c.loop-index.invariant.2 c.in_ok-check_solid.ensures.fault)
 
-pub returns : goal.returns
-returns c =
+pub returns-clause-fault : goal.returns-clause-fault
+returns-clause-fault c =
     layer_none (solid_rules c.args.space.now) (count c.args.space.now 3) c.loop-index.index (omega (arith, c.loop-index-test.false, c.cells-index-end.ensures.cells)) c.loop-index.invariant.2
