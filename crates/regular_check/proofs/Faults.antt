@@ -75,3 +75,35 @@ fault_moves a b h (NotCycle n) e = h (NotCycle n) e
 fault_moves a b h (EdgeNotTwice n) e = h (EdgeNotTwice n) e
 fault_moves a b h (Apart n) e = h (Apart n) e
 fault_moves a b h (NotSphere n v) e = h (NotSphere n v) e
+
+-- ---- a rule that is kept
+
+some_none : {f : RegularFault} → Some f ≡ None → ⊥
+some_none g = cc
+
+pub kept_holds : (r : Rule) (rs : List Rule) → fault_in (r ∷ rs) ≡ None → r.kept ≡ true
+kept_holds r rs e = by_test r.kept refl
+  where
+    by_test : (b : Bool) → r.kept ≡ b → r.kept ≡ true
+    by_test true k = k
+    by_test false k = absurd (some_none (sym (head_broken r rs k) ∙ e))
+
+-- of two parts both have no fault where the whole has none
+pub none_parts : (xs ys : List Rule) → fault_in (xs ++ ys) ≡ None → (fault_in xs ≡ None) × (fault_in ys ≡ None)
+none_parts [] ys e = (refl, e)
+none_parts (r ∷ rs) ys e =
+    let k : r.kept ≡ true = kept_holds r (rs ++ ys) e in
+    let rest = none_parts rs ys (sym (head_kept r (rs ++ ys) k) ∙ e) in
+    (head_kept r rs k ∙ rest.0, rest.1)
+
+none_each_from : (g : ℕ → List Rule) (a n k : ℕ) → fault_in (flat_map g (range_with_len a n)) ≡ None → a ≤ k → k < a + n → fault_in (g k) ≡ None
+none_each_from g a zero k e low high = absurd (omega arith)
+none_each_from g a (suc n) k e low high =
+    let parts = none_parts (g a) (flat_map g (range_with_len (a + 1) n)) (ap fault_in (sym (flat_map-cons g a (range_with_len (a + 1) n))) ∙ e) in
+    elim (eqb_tells a k) [
+      | inl p ↦ ap (λ (j : ℕ). fault_in (g j)) (sym p.1) ∙ parts.0
+      | inr p ↦ none_each_from g (a + 1) n k parts.1 (omega (arith, p.1, low)) (omega arith)
+    ]
+
+pub none_each : (g : ℕ → List Rule) (n k : ℕ) → fault_in (flat_map g (upto n)) ≡ None → 1 ≤ k → k ≤ n → fault_in (g k) ≡ None
+none_each g n k e low high = none_each_from g 1 n k e low (omega arith)

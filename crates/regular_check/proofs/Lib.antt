@@ -8,3 +8,5 @@ pub mod Passing
 pub mod Inserted
 pub mod Searching
 pub mod Faults
+pub mod Walking
+pub mod Parts

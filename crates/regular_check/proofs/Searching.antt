@@ -20,7 +20,7 @@ use Rattle.regular_check.proofs.Inserted.{AreMore, are_more}
 
 -- ---- two numbers and their sum
 
-sum_two : (a b : ℕ) → sum (a ∷ b ∷ []) ≡ a + b
+pub sum_two : (a b : ℕ) → sum (a ∷ b ∷ []) ≡ a + b
 sum_two a b = omega arith
 
 other_in : (xs : List ℕ) (c : ℕ) → length xs ≡ 2 → In c xs → In (sum xs - c) xs
@@ -56,20 +56,20 @@ module _ (space : List (List (List ℕ))) (dim : ℕ) (cells : List ℕ) (tallie
     pub tally : IsTally space dim cells tallies
     pub twice : each_twice space dim cells ≡ true
 
-  cell_low : IsReady → (c : ℕ) → In c cells → (1 ≤ c) × (c ≤ count space dim)
+  pub cell_low : IsReady → (c : ℕ) → In c cells → (1 ≤ c) × (c ≤ count space dim)
   cell_low h c m = let a = In-at m in let w = h.cell.within a.0 0 a.1 in (omega (arith, w.0, a.2), omega (arith, w.1, a.2))
 
   is_cell : IsReady → (c : ℕ) → In c cells → IsCell (length tallies) (facets_of space dim c)
   is_cell h c m = let w = cell_low h c m in facets-cell space dim c (length tallies) h.valid h.low w.0 w.1 h.room
 
   -- two of the cells have the facet
-  pair : IsReady → (c f : ℕ) → In c cells → In f (facets_of space dim c) → length (sharing space dim cells f) ≡ 2
+  pub pair : IsReady → (c f : ℕ) → In c cells → In f (facets_of space dim c) → length (sharing space dim cells f) ≡ 2
   pair h c f m k = eqb-true (length (sharing space dim cells f)) 2 (all-In (λ g. eqb (length (sharing space dim cells g)) 2) (all-In (λ d. list_all (λ g. eqb (length (sharing space dim cells g)) 2) (facets_of space dim d)) h.twice m) k)
 
-  shares : (c f : ℕ) → In c cells → In f (facets_of space dim c) → In c (sharing space dim cells f)
+  pub shares : (c f : ℕ) → In c cells → In f (facets_of space dim c) → In c (sharing space dim cells f)
   shares c f m k = In-filter (λ d. holds (facets_of space dim d) f) m (In-holds k)
 
-  sum_is : IsReady → (c f : ℕ) → In c cells → In f (facets_of space dim c) → (tally_at tallies (f - 1)).sum ≡ sum (sharing space dim cells f)
+  pub sum_is : IsReady → (c f : ℕ) → In c cells → In f (facets_of space dim c) → (tally_at tallies (f - 1)).sum ≡ sum (sharing space dim cells f)
   sum_is h c f m k =
       let a = In-at k in
       let w = (is_cell h c m).within a.0 0 a.1 in
@@ -78,18 +78,18 @@ module _ (space : List (List (List ℕ))) (dim : ℕ) (cells : List ℕ) (tallie
       let e : f - 1 + 1 ≡ f = omega arith in
       ap (λ (y : Tally). y.sum) (h.tally (f - 1) (omega arith)) ∙ ap (λ (n : ℕ). sum (sharing space dim cells n)) e
 
-  across_in : IsReady → (c f : ℕ) → In c cells → In f (facets_of space dim c) → In (other tallies c f) (sharing space dim cells f)
+  pub across_in : IsReady → (c f : ℕ) → In c cells → In f (facets_of space dim c) → In (other tallies c f) (sharing space dim cells f)
   across_in h c f m k =
       subst (λ (s : ℕ). In (s - c) (sharing space dim cells f)) (sym (sum_is h c f m k)) (other_in (sharing space dim cells f) c (pair h c f m k) (shares c f m k))
 
-  across_cell : IsReady → (c f : ℕ) → In c cells → In f (facets_of space dim c) → In (other tallies c f) cells
+  pub across_cell : IsReady → (c f : ℕ) → In c cells → In f (facets_of space dim c) → In (other tallies c f) cells
   across_cell h c f m k = In-inside (λ d. holds (facets_of space dim d) f) cells (across_in h c f m k)
 
   across_meets : IsReady → (c f : ℕ) → In c cells → In f (facets_of space dim c) → meet space dim c (other tallies c f) ≡ true
   across_meets h c f m k = any-In (λ g. holds (facets_of space dim (other tallies c f)) g) k (filter-In (λ d. holds (facets_of space dim d) f) cells (across_in h c f m k))
 
   -- a cell that meets another is it, or lies across a facet of it
-  meets_across : IsReady → (c z : ℕ) → In c cells → In z cells → meet space dim c z ≡ true → (z ≡ c) ⊎ In z (map (other tallies c) (facets_of space dim c))
+  pub meets_across : IsReady → (c z : ℕ) → In c cells → In z cells → meet space dim c z ≡ true → (z ≡ c) ⊎ In z (map (other tallies c) (facets_of space dim c))
   meets_across h c z m n e =
       let s = any-some (λ g. holds (facets_of space dim z) g) (facets_of space dim c) e in
       let f : ℕ = s.0 in

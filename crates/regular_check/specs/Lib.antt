@@ -2,3 +2,4 @@ pub mod Reach
 pub mod Rules
 pub mod Marks
 pub mod Tally
+pub mod Cycle

@@ -4,6 +4,7 @@
 //! no vertex, and the boundary of each 3-cell is a sphere. Cells are numbered from 1 in each dimension.
 #![tactic(auto)]
 
+mod cycles;
 mod fault;
 mod laws;
 mod marks;
@@ -12,6 +13,7 @@ mod rules;
 mod search;
 mod tally;
 
+pub use cycles::Step;
 pub use fault::RegularFault;
 pub use laws::rounds_reach_what_steps_lead_to;
 pub use regular::{Regular, check};

@@ -1,6 +1,9 @@
-ghost use Rattle.std.specs.Prelude.{◌≡◌, IfOk, MatchResult};
+ghost use Rattle.std.specs.Prelude.{◌≡◌, ◌≤◌, IfOk, MatchResult};
+ghost use Rattle.face_poset.specs.Poset.{count};
 ghost use Rattle.regular_check.specs.Rules.{IsRegular, IsFault, first_fault};
+ghost use Rattle.regular_check.specs.Cycle.{cycle};
 
+use crate::cycles::{Cycles, Step, all_cycles};
 use crate::fault::RegularFault;
 use crate::marks::Marks;
 use crate::rules::{check_disks, check_edges, check_solids};
@@ -13,17 +16,20 @@ use std::marker::Model;
 #[derive(Drop)]
 pub struct Regular<'a> {
     space: &'a Space,
+    cycles: Cycles,
 }
 
 impl<'a> Model for Regular<'a> {
     ghost use Rattle.std.specs.Prelude.{List, ℕ};
+    ghost use Rattle.face_poset.specs.Poset.{count};
     ghost use Rattle.regular_check.specs.Rules.{IsRegular};
+    ghost use Rattle.regular_check.specs.Cycle.{AreCycles};
 
     ghost Value = { List (List (List ℕ)) };
 
     ghost view = { λ r. r.space.now };
 
-    ghost invariant = { λ r. IsRegular r.space.now };
+    ghost invariant = { λ r. IsRegular r.space.now × AreCycles r.space.now (count r.space.now 2) r.cycles.ends.items r.cycles.steps.items };
 }
 
 impl<'a> Regular<'a> {
@@ -33,6 +39,19 @@ impl<'a> Regular<'a> {
         ensures regular { IsRegular self.now }
     {
         self.space
+    }
+
+    /// The cycle of a 2-cell, which is counted from 1: its edges one after another, from its least vertex
+    /// along the lower-numbered of the two edges there.
+    pub fn cycle_of(&self, cell: u32) -> &[Step]
+        requires first { 1 ≤ cell }
+        requires last { cell ≤ count self.now 2 }
+        ensures cycle { result.now ≡ cycle self.now cell }
+        ensures regular { IsRegular self.now }
+    {
+        let start = self.cycles.ends[cell as usize - 1];
+        let end = self.cycles.ends[cell as usize];
+        &self.cycles.steps[start..end]
     }
 }
 
@@ -55,5 +74,6 @@ pub fn check<'a>(alloc: Global, space: &'a Space) -> Result<Regular<'a>, Regular
     let mut found = Marks::new(alloc, most)?;
     check_disks(space, &mut tallies, &mut found)?;
     check_solids(alloc, space, &mut tallies, &mut found)?;
-    Ok(Regular { space })
+    let cycles = all_cycles(alloc, space, &mut tallies)?;
+    Ok(Regular { space, cycles })
 }

@@ -1,5 +1,5 @@
 // The worked examples of spaces that are regular, and for each rule a space that breaks it alone.
-use crate::{RegularFault, check};
+use crate::{RegularFault, Step, check};
 use face_poset::{Graded, Space, SpaceFault, from_nest};
 use gap_text::parse;
 use std::alloc::Global;
@@ -71,5 +71,33 @@ fn names_the_first_rule_that_is_broken(rt: HostRuntime) -> Result<(), Fail> {
             Err(fault) => assert_eq!(rt; fault, wanted, "{text}"),
         }
     }
+    Ok(())
+}
+
+#[test]
+fn walks_cycles_from_the_least_vertex_along_the_lower_edge(rt: HostRuntime) -> Result<(), Fail> {
+    let text =
+        "[[[1,0],[1,0],[1,0],[1,0]],[[2,1,2],[2,1,3],[2,1,4],[2,2,3],[2,2,4],[2,3,4]],[[4,1,3,4,6],[4,1,2,5,6],[4,2,3,4,5]]]";
+    let wanted = [
+        [(1u32, true), (4, true), (6, true), (3, false)],
+        [(1, true), (5, true), (6, false), (2, false)],
+        [(2, true), (4, false), (5, true), (3, false)],
+    ];
+    let space = read(rt.alloc(), text)?;
+    let regular = match check(rt.alloc(), &space) {
+        Ok(regular) => regular,
+        Err(fault) => return Err(Fail::from(fault)),
+    };
+    for index in 0..3u32 {
+        if index < regular.space().cells(2) {
+            let cycle = regular.cycle_of(index + 1);
+            let steps = wanted[index as usize];
+            assert_eq!(rt; cycle.len(), 4);
+            for (step, (edge, forward)) in cycle.iter().zip(steps) {
+                assert_eq!(rt; *step, Step { edge, forward });
+            }
+        }
+    }
+    assert_eq!(rt; regular.space().cells(2), 3);
     Ok(())
 }
