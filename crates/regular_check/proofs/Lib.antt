@@ -1,0 +1,12 @@
+pub mod Members
+pub mod Reach
+pub mod MarkLemmas
+pub mod Touch
+pub mod Cells
+pub mod Tallies
+pub mod Passing
+pub mod Inserted
+pub mod Searching
+pub mod Faults
+pub mod Walking
+pub mod Parts

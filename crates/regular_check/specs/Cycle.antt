@@ -1,0 +1,60 @@
+-- The cycle of a 2-cell: from its least vertex, first along the lower-numbered of the two edges there.
+use Rattle.std.specs.Prelude.{◌≡◌, ℕ, zero, suc, ◌+◌, ◌-◌, ◌≤◌, ◌<◌, ◌==◌, List, [], ◌∷◌, length, cond, filter, not, slice_index, take, drop}
+use Rattle.face_poset.specs.Poset.{facets_of}
+use Rattle.face_poset.specs.Below.{facets_of_all}
+use Rattle.regular_check.specs.declared.cycles.Step.{Step}
+use Rattle.regular_check.specs.Rules.{sharing}
+
+-- the vertex where a step ends
+abbrev pub end_of : List (List (List ℕ)) → Step → ℕ
+end_of space step = slice_index (facets_of space 1 step.edge) (cond step.forward 1 0)
+
+-- the step from a vertex along an edge: forward where the vertex is the first of the edge's two
+abbrev pub step_from : List (List (List ℕ)) → (vertex edge : ℕ) → Step
+step_from space vertex edge = record { edge = edge; forward = slice_index (facets_of space 1 edge) 0 == vertex }
+
+-- the first of these edges at a vertex
+abbrev pub edge_at : List (List (List ℕ)) → (edges : List ℕ) → (vertex : ℕ) → ℕ
+edge_at space edges vertex = slice_index (sharing space 1 edges vertex) 0
+
+-- the first of these edges at a vertex other than this one
+abbrev pub other_edge : List (List (List ℕ)) → (edges : List ℕ) → (vertex edge : ℕ) → ℕ
+other_edge space edges vertex edge = slice_index (filter (λ e. not (e == edge)) (sharing space 1 edges vertex)) 0
+
+-- so many steps along these edges, on from a vertex along an edge
+abbrev pub walk : List (List (List ℕ)) → (edges : List ℕ) → (steps vertex edge : ℕ) → List Step
+walk space edges zero vertex edge = []
+walk space edges (suc steps) vertex edge =
+    step_from space vertex edge
+    ∷ walk space edges steps (end_of space (step_from space vertex edge)) (other_edge space edges (end_of space (step_from space vertex edge)) edge)
+
+-- the least vertex of these edges
+abbrev pub least_vertex : List (List (List ℕ)) → (edges : List ℕ) → ℕ
+least_vertex space edges = slice_index (facets_of_all space 0 edges) 0
+
+-- once round along these edges
+abbrev pub cycle_along : List (List (List ℕ)) → (edges : List ℕ) → List Step
+cycle_along space edges = walk space edges (length edges) (least_vertex space edges) (edge_at space edges (least_vertex space edges))
+
+abbrev pub cycle : List (List (List ℕ)) → (cell : ℕ) → List Step
+cycle space cell = cycle_along space (facets_of space 2 cell)
+
+-- the cycles of the first 2-cells stand one after another in the steps; cycle c from where c - 1 ends
+pub record AreCycles (space : List (List (List ℕ))) (cells : ℕ) (ends : List ℕ) (steps : List Step) : Type 0 where
+  pub long : length ends ≡ cells + 1
+  pub last : slice_index ends cells ≡ length steps
+  pub rise : (c : ℕ) → 1 ≤ c → c ≤ cells → slice_index ends (c - 1) ≤ slice_index ends c
+  pub within : (c : ℕ) → c ≤ cells → slice_index ends c ≤ length steps
+  pub parts : (c : ℕ) → 1 ≤ c → c ≤ cells → take (slice_index ends c - slice_index ends (c - 1)) (drop (slice_index ends (c - 1)) steps) ≡ cycle space c
+
+-- each edge has two ends
+abbrev pub HasEnds : List (List (List ℕ)) → (edges : ℕ) → Type 0
+HasEnds space edges = (e : ℕ) → 1 ≤ e → e ≤ edges → length (facets_of space 1 e) ≡ 2
+
+-- an edge of the list whose first vertex is the least of all; of those the first
+pub record IsFirstEdge (space : List (List (List ℕ))) (edges : List ℕ) (upto : ℕ) (edge : ℕ) : Type 0 where
+  pub place : ℕ
+  pub within : place < length edges
+  pub here : slice_index edges place ≡ edge
+  pub before : (j : ℕ) → j < place → slice_index (facets_of space 1 edge) 0 < slice_index (facets_of space 1 (slice_index edges j)) 0
+  pub least : (j : ℕ) → j < upto → slice_index (facets_of space 1 edge) 0 ≤ slice_index (facets_of space 1 (slice_index edges j)) 0

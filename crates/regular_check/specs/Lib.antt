@@ -1,0 +1,5 @@
+pub mod Reach
+pub mod Rules
+pub mod Marks
+pub mod Tally
+pub mod Cycle

@@ -1,0 +1,22 @@
+//! The regularity of a space of dimension at most 3, and its connected components.
+//!
+//! A space is regular where each edge has two ends, the edges of each 2-cell form one cycle that repeats
+//! no vertex, and the boundary of each 3-cell is a sphere. Cells are numbered from 1 in each dimension.
+#![tactic(auto)]
+
+mod cycles;
+mod fault;
+mod laws;
+mod marks;
+mod regular;
+mod rules;
+mod search;
+mod tally;
+
+pub use cycles::Step;
+pub use fault::RegularFault;
+pub use laws::rounds_reach_what_steps_lead_to;
+pub use regular::{Regular, check};
+
+#[cfg(test)]
+mod tests;

@@ -1,0 +1,127 @@
+// The rules of a regular space, cell by cell.
+ghost use Rattle.std.specs.Prelude.{◌≡◌, ◌≤◌, ◌==◌, length, filter, None, OnOk, MatchResult, pos, ◌+ℤ◌, ◌-ℤ◌};
+ghost use Rattle.std.specs.List.{flat_map};
+ghost use Rattle.face_poset.specs.Words.{upto};
+ghost use Rattle.face_poset.specs.Poset.{count};
+ghost use Rattle.face_poset.specs.declared.cells.Cell.{Cell};
+ghost use Rattle.regular_check.specs.Rules.{edge_rules, disk_rules, solid_rules, fault_in, IsFault};
+ghost use Rattle.regular_check.specs.Tally.{IsBlank};
+
+use crate::fault::RegularFault;
+use crate::marks::Marks;
+use crate::search::shape_of;
+use crate::tally::Tally;
+use face_poset::{CellList, Graded, Space};
+use std::alloc::Global;
+
+/// Finds the first edge without two ends.
+pub(crate) fn check_edges(space: &Space) -> Result<(), RegularFault>
+    ensures { MatchResult result (λ _. fault_in (flat_map (edge_rules space.now) (upto (count space.now 1))) ≡ None) (IsFault (fault_in (flat_map (edge_rules space.now) (upto (count space.now 1))))) }
+{
+    for index in 0..space.cells(1) {
+        if space.facets(1, index + 1).len() != 2 {
+            return Err(RegularFault::EdgeEnds(index + 1));
+        }
+    }
+    Ok(())
+}
+
+/// Finds the first 2-cell whose edges are no cycle.
+pub(crate) fn check_disks(
+    space: &Space,
+    tallies: &mut [Tally],
+    found: &mut Marks,
+) -> Result<(), RegularFault>
+    requires room { count space.now 0 ≤ length tallies.old }
+    requires most { count space.now 1 ≤ found.old.most }
+    requires blank { IsBlank tallies.old }
+    ensures most { found.new.most ≡ found.old.most }
+    ensures blank { OnOk result (IsBlank tallies.new) }
+    ensures fault { MatchResult result (λ _. fault_in (flat_map (disk_rules space.now) (upto (count space.now 2))) ≡ None) (IsFault (fault_in (flat_map (disk_rules space.now) (upto (count space.now 2))))) }
+{
+    for index in 0..space.cells(2) {
+        let shape = shape_of(space, 1, space.facets(2, index + 1), tallies, found)?;
+        if !(shape.is_closed && shape.is_connected) {
+            return Err(RegularFault::NotCycle(index + 1));
+        }
+    }
+    Ok(())
+}
+
+/// How many cells of a dimension are in the list.
+fn count_of(cells: &CellList, dim: u8) -> u32
+    requires { length cells.now ≤ 4294967295 }
+    ensures { result ≡ length (filter (λ (face : Cell). face.dim == dim) cells.now) }
+{
+    let mut number = 0;
+    for index in 0..cells.len() {
+        if cells.get(index).dim == dim {
+            number += 1;
+        }
+    }
+    number
+}
+
+/// Finds a fault of the boundary of a 3-cell.
+fn check_solid(
+    alloc: Global,
+    space: &Space,
+    cell: u32,
+    tallies: &mut [Tally],
+    found: &mut Marks,
+) -> Result<(), RegularFault>
+    requires first { 1 ≤ cell }
+    requires last { cell ≤ count space.now 3 }
+    requires few { count space.now 2 ≤ 60000 }
+    requires room { count space.now 1 ≤ length tallies.old }
+    requires most { count space.now 2 ≤ found.old.most }
+    requires blank { IsBlank tallies.old }
+    ensures most { found.new.most ≡ found.old.most }
+    ensures blank { OnOk result (IsBlank tallies.new) }
+    ensures fault { MatchResult result (λ _. fault_in (solid_rules space.now cell) ≡ None) (IsFault (fault_in (solid_rules space.now cell))) }
+{
+    let shape = shape_of(space, 2, space.facets(3, cell), tallies, found)?;
+    if !shape.is_closed {
+        return Err(RegularFault::EdgeNotTwice(cell));
+    }
+    if !shape.is_connected {
+        return Err(RegularFault::Apart(cell));
+    }
+    let faces = space.below(alloc, 3, cell)?;
+    let vertices = count_of(&faces, 0);
+    let edges = count_of(&faces, 1);
+    let disks = count_of(&faces, 2);
+    if u64::from(vertices) + u64::from(disks) == u64::from(edges) + 2 {
+        Ok(())
+    } else {
+        Err(no_sphere(cell, vertices, edges, disks))
+    }
+}
+
+/// The fault of a 3-cell with so many vertices, edges and 2-cells in its boundary.
+fn no_sphere(cell: u32, vertices: u32, edges: u32, disks: u32) -> RegularFault
+    ensures { result ≡ RegularFault.NotSphere cell ((pos vertices -ℤ pos edges) +ℤ pos disks) }
+{
+    let value = i64::from(vertices) - i64::from(edges) + i64::from(disks);
+    RegularFault::NotSphere(cell, value)
+}
+
+/// Finds the first fault of the boundaries of 3-cells.
+pub(crate) fn check_solids(
+    alloc: Global,
+    space: &Space,
+    tallies: &mut [Tally],
+    found: &mut Marks,
+) -> Result<(), RegularFault>
+    requires room { count space.now 1 ≤ length tallies.old }
+    requires most { count space.now 2 ≤ found.old.most }
+    requires blank { IsBlank tallies.old }
+    ensures most { found.new.most ≡ found.old.most }
+    ensures blank { OnOk result (IsBlank tallies.new) }
+    ensures fault { MatchResult result (λ _. fault_in (flat_map (solid_rules space.now) (upto (count space.now 3))) ≡ None) (IsFault (fault_in (flat_map (solid_rules space.now) (upto (count space.now 3))))) }
+{
+    for index in 0..space.cells(3) {
+        check_solid(alloc, space, index + 1, tallies, found)?;
+    }
+    Ok(())
+}
