@@ -21,7 +21,7 @@ use Rattle.hap_cli.specs.declared.outcome.Outcome.{Outcome}
 use Rattle.hap_cli.specs.declared.outcome.Outcome.TheVariants.{Done, Usage, Refused, ReadFault, WriteFault, Memory}
 use Rattle.hap_cli.specs.declared.refusal.Refusal.{Refusal}
 use Rattle.hap_cli.specs.declared.refusal.Refusal.TheVariants.{TooLong, Text, Space}
-use Rattle.hap_cli.specs.Input.{input_name, input_limit, OnInput}
+use Rattle.hap_cli.specs.Input.{input_name, OnInput}
 use Rattle.hap_cli.specs.Spaces.{space_in, of_text, of_value, fault_in}
 use Rattle.hap_cli.specs.Refusals.{refusal, refusal_status, space_status}
 use Rattle.hap_cli.specs.Answers.{cells_text}

@@ -1,4 +1,4 @@
-use Rattle.std.proofs.Common.{rules, ◌≡◌, Ok, sym, ap, ◌∙◌}
+use Rattle.std.proofs.Common.{rules, sym, ap, ◌∙◌}
 use Rattle.hap_words.specs.Asked.{source_of}
 use Rattle.hap_cli.specs.Spaces.{space_in}
 use Rattle.hap_cli.proofs.Ends.{wrote_front}
