@@ -20,6 +20,3 @@ pub use laws::{
     betti_by_ranks, betti_is_one_number, chains_are_ordered, chains_are_sequences,
     coboundaries_are_closed, coboundary_is_adjoint,
 };
-
-#[cfg(test)]
-mod tests;
