@@ -18,12 +18,11 @@ input_name (cover s n i b p) = s.name
 input_name (report s p n b t) = s.name
 input_name (make n p) = None
 
--- how many bytes the input may have
-abbrev pub input_limit : Asked → ℕ
-input_limit (verify name) = 67108864
-input_limit other = 16777216
+-- where the source tells its bytes, it has an input under the name, of which this holds
+abbrev pub OnNamed : Option (List ℕ) → Option Store → (List ℕ → Type 0) → Type 0
+OnNamed name None P = ⊤
+OnNamed name (Some store) P = IsSomeAnd (store name) P
 
--- where the source tells its bytes, it has an input for the command, of which this holds
+-- the same of the input of a command
 abbrev pub OnInput : Asked → Option Store → (List ℕ → Type 0) → Type 0
-OnInput asked None P = ⊤
-OnInput asked (Some store) P = IsSomeAnd (store (input_name asked)) P
+OnInput asked store P = OnNamed (input_name asked) store P

@@ -3,3 +3,4 @@ pub mod Spaces
 pub mod Refusals
 pub mod Answers
 pub mod Outcomes
+pub mod Counting

@@ -2,7 +2,8 @@
 use Rattle.std.specs.Prelude.{◌≡◌, ◌⊎◌, ◌≤◌, ℕ, List, [], codes, length, take, None, ⊤}
 use Rattle.std.specs.declared.option.Option.{Option}
 use Rattle.std.specs.declared.option.Option.TheVariants.{Some}
-use Rattle.std.specs.declared.result.Result.TheVariants.{Err}
+use Rattle.std.specs.declared.result.Result.{Result}
+use Rattle.std.specs.declared.result.Result.TheVariants.{Ok, Err}
 use Rattle.std.specs.Io.KnownBytes.{Appends, Keeps}
 use Rattle.hap_outside.specs.Stores.{Store}
 use Rattle.hap_words.specs.Asked.{Asked}
@@ -13,9 +14,12 @@ use Rattle.gap_text.specs.declared.fault.TextFault.{TextFault}
 use Rattle.gap_text.specs.declared.fault.TextFault.TheVariants as in_text
 use Rattle.face_poset.specs.declared.fault.SpaceFault.{SpaceFault}
 use Rattle.face_poset.specs.declared.fault.SpaceFault.TheVariants as in_space
-use Rattle.hap_cli.specs.declared.refusal.Refusal.TheVariants.{Text, Space}
-use Rattle.hap_cli.specs.Spaces.{space_in}
-use Rattle.hap_cli.specs.Input.{OnInput}
+use Rattle.regular_check.specs.declared.fault.RegularFault.{RegularFault}
+use Rattle.regular_check.specs.declared.fault.RegularFault.TheVariants as in_rules
+use Rattle.hap_cli.specs.declared.refusal.Refusal.TheVariants.{Text, Space, Irregular, Chains}
+use Rattle.order_complex.specs.declared.fault.ChainFault.{ChainFault}
+use Rattle.order_complex.specs.declared.fault.ChainFault.TheVariants as in_chains
+use Rattle.hap_cli.specs.Input.{OnNamed, OnInput}
 use Rattle.hap_cli.specs.Refusals.{refusal, refusal_status, refusal_line}
 use Rattle.hap_cli.specs.Answers.{IsAnswer}
 
@@ -40,14 +44,19 @@ line_of ReadFault = codes "hap: read fault\n"
 line_of WriteFault = codes "hap: write fault\n"
 line_of Memory = codes "hap: want of memory\n"
 
+-- how a run ends after its answer was written
+abbrev pub written_outcome : {T E : Type 0} → Result T E → Outcome
+written_outcome (Ok written) = Done
+written_outcome (Err failed) = WriteFault
+
 -- the status where nothing fails outside
 abbrev pub status_for : Option Refusal → ℕ
 status_for None = 0
 status_for (Some cause) = refusal_status cause
 
--- ---- no space
+-- ---- faults of what a stage reads
 
--- how a run ends at a fault of the text, and at one of the space: it is refused, or memory was wanting
+-- how a run ends at a fault of the text, of the space, and at a broken rule: it is refused, or memory was wanting
 abbrev pub text_outcome : TextFault → Outcome
 text_outcome in_text.Memory = Memory
 text_outcome fault = Refused (Text fault)
@@ -56,11 +65,27 @@ abbrev pub space_outcome : SpaceFault → Outcome
 space_outcome in_space.Memory = Memory
 space_outcome fault = Refused (Space fault)
 
--- why there is no space: it is refused for this cause, or memory was wanting
-abbrev pub IsNoSpace : List ℕ → Outcome → Type 0
-IsNoSpace bytes (Refused cause) = space_in bytes ≡ Err cause
-IsNoSpace bytes Memory = ⊤
-IsNoSpace bytes other = ⊥
+abbrev pub regular_outcome : RegularFault → Outcome
+regular_outcome in_rules.Memory = Memory
+regular_outcome fault = Refused (Irregular fault)
+
+-- and at too many chains
+abbrev pub chain_outcome : ChainFault → Outcome
+chain_outcome in_chains.Memory = Memory
+chain_outcome (in_chains.TooManyChains count) = Refused (Chains count)
+
+-- what was read is refused for this cause, or memory was wanting
+abbrev pub Fails : Result (List (List (List ℕ))) Refusal → Outcome → Type 0
+Fails read (Refused cause) = read ≡ Err cause
+Fails read Memory = ⊤
+Fails read other = ⊥
+
+-- how a run ends that does not come past a stage: rose says that the count of the source rose
+abbrev pub IsStopped : Option (List ℕ) → Option Store → (rose : Type 0) → (stage : List ℕ → Result (List (List (List ℕ))) Refusal) → Outcome → Type 0
+IsStopped name store rose stage (Refused cause) = OnNamed name store (λ told. stage told ≡ Err cause)
+IsStopped name store rose stage ReadFault = rose
+IsStopped name store rose stage Memory = ⊤
+IsStopped name store rose stage other = ⊥
 
 -- ---- the ends
 

@@ -1,6 +1,6 @@
 -- Why a command refuses its input.
-use Rattle.std.specs.Prelude.{ℕ, ◌++◌, List, codes, decimal, length, nat_lt, if◌then◌else◌}
-use Rattle.std.specs.Option.{option_or}
+use Rattle.std.specs.Prelude.{ℕ, ℤ, ◌++◌, List, codes, decimal}
+use Rattle.std.specs.Fmt.{signed_decimal}
 use Rattle.std.specs.declared.option.Option.{Option}
 use Rattle.std.specs.declared.option.Option.TheVariants.{Some, None}
 use Rattle.gap_text.specs.declared.fault.TextFault.{TextFault}
@@ -8,25 +8,19 @@ use Rattle.gap_text.specs.declared.fault.TextFault.TheVariants as in_text
 use Rattle.face_poset.specs.declared.cells.Cell.{Cell}
 use Rattle.face_poset.specs.declared.fault.SpaceFault.{SpaceFault}
 use Rattle.face_poset.specs.declared.fault.SpaceFault.TheVariants as in_space
-use Rattle.hap_words.specs.Asked.{Asked, cells}
+use Rattle.regular_check.specs.declared.fault.RegularFault.{RegularFault}
+use Rattle.regular_check.specs.declared.fault.RegularFault.TheVariants as rule
+use Rattle.hap_words.specs.Asked.{Asked, cells, check, betti}
 use Rattle.hap_cli.specs.declared.refusal.Refusal.{Refusal}
-use Rattle.hap_cli.specs.declared.refusal.Refusal.TheVariants.{TooLong, Text, Space}
-use Rattle.hap_cli.specs.Input.{input_limit}
-use Rattle.hap_cli.specs.Spaces.{space_in, fault_in}
+use Rattle.hap_cli.specs.declared.refusal.Refusal.TheVariants.{TooLong, Text, Space, Irregular, Chains}
+use Rattle.hap_cli.specs.Spaces.{fault_in, reading, regular_reading, few_reading}
 
--- the input has more bytes than the command takes
-abbrev pub length_refusal : Asked → List ℕ → Option Refusal
-length_refusal asked bytes =
-    if nat_lt (input_limit asked) (length bytes) then Some (TooLong (input_limit asked)) else None
-
--- what the command itself refuses: the text, and then the space
-abbrev pub command_refusal : Asked → List ℕ → Option Refusal
-command_refusal (cells s) bytes = fault_in (space_in bytes)
-command_refusal other bytes = None
-
--- the first condition that holds, in this order
+-- the first condition that holds, in the order of the stages
 abbrev pub refusal : Asked → List ℕ → Option Refusal
-refusal asked bytes = option_or (length_refusal asked bytes) (command_refusal asked bytes)
+refusal (cells s) bytes = fault_in (reading bytes)
+refusal (check s) bytes = fault_in (regular_reading bytes)
+refusal (betti s p) bytes = fault_in (few_reading bytes)
+refusal other bytes = None
 
 abbrev pub space_status : SpaceFault → ℕ
 space_status in_space.TooManyCells = 5
@@ -36,6 +30,8 @@ abbrev pub refusal_status : Refusal → ℕ
 refusal_status (TooLong limit) = 5
 refusal_status (Text fault) = 3
 refusal_status (Space fault) = space_status fault
+refusal_status (Irregular fault) = 4
+refusal_status (Chains count) = 5
 
 -- ---- the lines
 
@@ -81,10 +77,30 @@ space_line (in_space.RepeatedFace cell) = cell_line (codes "repeated face") cell
 space_line in_space.TooManyCells = codes "hap: limit: cells over 60000\n"
 space_line in_space.Memory = codes "hap: want of memory\n"
 
+-- the rule that a cell breaks
+abbrev pub rule_line : List ℕ → ℕ → List ℕ
+rule_line words cell = codes "hap: space: " ++ (words ++ (codes ", cell " ++ (decimal cell ++ codes "\n")))
+
+abbrev pub sphere_line : ℕ → ℤ → List ℕ
+sphere_line cell value = codes "hap: space: not a sphere, cell " ++ (decimal cell ++ (codes ", value " ++ (signed_decimal value ++ codes "\n")))
+
+abbrev pub regular_line : RegularFault → List ℕ
+regular_line (rule.EdgeEnds cell) = rule_line (codes "edge ends") cell
+regular_line (rule.NotCycle cell) = rule_line (codes "not a cycle") cell
+regular_line (rule.EdgeNotTwice cell) = rule_line (codes "edge not twice") cell
+regular_line (rule.Apart cell) = rule_line (codes "apart") cell
+regular_line (rule.NotSphere cell value) = sphere_line cell value
+regular_line rule.Memory = codes "hap: want of memory\n"
+
 abbrev pub limit_line : ℕ → List ℕ
 limit_line limit = codes "hap: limit: input over " ++ (decimal limit ++ codes " bytes\n")
+
+abbrev pub chains_line : ℕ → List ℕ
+chains_line count = codes "hap: limit: " ++ (decimal count ++ codes " chains\n")
 
 abbrev pub refusal_line : Refusal → List ℕ
 refusal_line (TooLong limit) = limit_line limit
 refusal_line (Text fault) = text_line fault
 refusal_line (Space fault) = space_line fault
+refusal_line (Irregular fault) = regular_line fault
+refusal_line (Chains count) = chains_line count

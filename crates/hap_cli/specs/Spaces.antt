@@ -1,5 +1,5 @@
--- The space that the bytes of a boundary list stand for, or why there is none.
-use Rattle.std.specs.Prelude.{ℕ, List}
+-- The space that the input of a command stands for, or why the input is refused.
+use Rattle.std.specs.Prelude.{ℕ, List, length, nat_lt, if◌then◌else◌}
 use Rattle.std.specs.declared.result.Result.{Result}
 use Rattle.std.specs.declared.result.Result.TheVariants.{Ok, Err}
 use Rattle.std.specs.declared.option.Option.{Option}
@@ -9,8 +9,13 @@ use Rattle.gap_text.specs.Reading.{value_of}
 use Rattle.gap_text.specs.Value.{Value}
 use Rattle.face_poset.specs.declared.fault.SpaceFault.{SpaceFault}
 use Rattle.face_poset.specs.Reader.{space_of}
+use Rattle.regular_check.specs.declared.fault.RegularFault.{RegularFault}
+use Rattle.regular_check.specs.Rules.{first_fault}
+use Rattle.order_complex.specs.Chains.{chain_count}
 use Rattle.hap_cli.specs.declared.refusal.Refusal.{Refusal}
-use Rattle.hap_cli.specs.declared.refusal.Refusal.TheVariants.{Text, Space}
+use Rattle.hap_cli.specs.declared.refusal.Refusal.TheVariants.{TooLong, Text, Space, Irregular, Chains}
+
+-- ---- the space of the bytes of a boundary list
 
 abbrev pub of_value : Result (List (List (List ℕ))) SpaceFault → Result (List (List (List ℕ))) Refusal
 of_value (Ok space) = Ok space
@@ -27,3 +32,29 @@ space_in bytes = of_text (value_of bytes)
 abbrev pub fault_in : Result (List (List (List ℕ))) Refusal → Option Refusal
 fault_in (Ok space) = None
 fault_in (Err refusal) = Some refusal
+
+-- ---- the stages of the reading; each refuses what the ones before it let through
+
+-- the input has more bytes than are taken, or is no space
+abbrev pub reading : List ℕ → Result (List (List (List ℕ))) Refusal
+reading bytes = if nat_lt 16777216 (length bytes) then Err (TooLong 16777216) else space_in bytes
+
+-- the space breaks a rule of regularity
+abbrev pub unless_broken : List (List (List ℕ)) → Option RegularFault → Result (List (List (List ℕ))) Refusal
+unless_broken space None = Ok space
+unless_broken space (Some fault) = Err (Irregular fault)
+
+abbrev pub only_regular : Result (List (List (List ℕ))) Refusal → Result (List (List (List ℕ))) Refusal
+only_regular (Ok space) = unless_broken space (first_fault space)
+only_regular (Err refusal) = Err refusal
+
+abbrev pub regular_reading : List ℕ → Result (List (List (List ℕ))) Refusal
+regular_reading bytes = only_regular (reading bytes)
+
+-- the order complex of the space has more chains than the limit
+abbrev pub only_few : (limit : ℕ) → Result (List (List (List ℕ))) Refusal → Result (List (List (List ℕ))) Refusal
+only_few limit (Ok space) = if nat_lt limit (chain_count space) then Err (Chains (chain_count space)) else Ok space
+only_few limit (Err refusal) = Err refusal
+
+abbrev pub few_reading : List ℕ → Result (List (List (List ℕ))) Refusal
+few_reading bytes = only_few 2000 (regular_reading bytes)

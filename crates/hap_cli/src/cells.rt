@@ -1,7 +1,9 @@
-// The command `cells`.
+// What the commands `cells` and `check` write.
+ghost use Rattle.std.specs.Prelude.{◌≡◌};
 ghost use Rattle.hap_outside.specs.Causes.{HasCause};
 ghost use Rattle.hap_outside.specs.Writes.{Writes};
-ghost use Rattle.hap_cli.specs.Answers.{cells_text};
+ghost use Rattle.regular_check.specs.Components.{component_count};
+ghost use Rattle.hap_cli.specs.Answers.{cells_text, check_text};
 
 use face_poset::{Graded, Space};
 use hap_outside::{Failed, Piece, Sink, write_pieces};
@@ -29,6 +31,24 @@ pub fn write_cells<K: Sink>(out: &mut K, space: &Space) -> Result<(), Failed>
             solids,
             Piece::Text(b"\neuler "),
             euler,
+            Piece::Text(b"\n"),
+        ],
+    )
+}
+
+/// Writes the same of a regular space, and how many components it has.
+pub fn write_check<K: Sink>(out: &mut K, space: &Space, components: u32) -> Result<(), Failed>
+    requires { components ≡ component_count space.now }
+    ensures bytes { Writes (K.written out.old) (K.written out.new) (check_text space.now) result }
+    ensures cause { HasCause (K.faults out.old) (K.faults out.new) result }
+{
+    write_cells(out, space)?;
+    let components = Piece::Count(u64::from(components));
+    write_pieces(
+        out,
+        &[
+            Piece::Text(b"regular\ncomponents "),
+            components,
             Piece::Text(b"\n"),
         ],
     )

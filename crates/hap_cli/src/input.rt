@@ -2,8 +2,8 @@
 ghost use Rattle.std.specs.Prelude.{◌≡◌, ◌<◌, ◌≤◌, false, length, IfOk, OnOk, IsErrOf};
 ghost use Rattle.std.specs.Io.KnownBytes.{IsAtEnd};
 ghost use Rattle.hap_outside.specs.Causes.{Rose};
-ghost use Rattle.hap_words.specs.Asked.{cells, source_of};
-ghost use Rattle.hap_cli.specs.Input.{OnInput};
+ghost use Rattle.hap_words.specs.Asked.{source_of};
+ghost use Rattle.hap_cli.specs.Input.{OnNamed};
 
 use hap_outside::{Failed, ReadAll, Source, read_all};
 use hap_words::Input;
@@ -20,10 +20,10 @@ pub fn read_input<S: Source>(
 ) -> Result<Vec<u8>, ReadAll>
     requires { S.begun source.old ≡ false }
     ensures bytes { IfOk result (λ bytes. (length bytes.items ≤ 16777216)
-        × OnInput (cells (source_of input.now)) (S.store source.old) (λ told. bytes.items ≡ told)) }
+        × OnNamed (source_of input.now).name (S.store source.old) (λ told. bytes.items ≡ told)) }
     ensures end { OnOk result (IsAtEnd (S.left source.new)) }
     ensures too_long { IsErrOf result ReadAll.TooLong
-        → OnInput (cells (source_of input.now)) (S.store source.old) (λ told. 16777216 < length told) }
+        → OnNamed (source_of input.now).name (S.store source.old) (λ told. 16777216 < length told) }
     ensures fault { IsErrOf result ReadAll.Fault → Rose (S.faults source.old) (S.faults source.new) }
     ensures told { S.faults source.old < S.faults source.new → IsErrOf result ReadAll.Fault }
 {

@@ -4,6 +4,7 @@
 //! ends, what it then wrote, and why.
 #![tactic(auto)]
 
+mod betti;
 mod cells;
 mod input;
 mod outcome;

@@ -8,6 +8,8 @@ use crate::refusal::{Refusal, refusal_code, write_refusal};
 use face_poset::SpaceFault;
 use gap_text::TextFault;
 use hap_outside::{Failed, Sink, write_all};
+use order_complex::ChainFault;
+use regular_check::RegularFault;
 
 /// How a run ends.
 #[derive(Clone, Copy, Debug, PartialEq, Eq)]
@@ -50,6 +52,34 @@ impl From<SpaceFault> for Outcome {
         match fault {
             SpaceFault::Memory => Outcome::Memory,
             _ => Outcome::Refused(Refusal::Space(fault)),
+        }
+    }
+}
+
+impl From<RegularFault> for Outcome {
+    ghost use Rattle.std.specs.Prelude.{◌≡◌};
+    ghost use Rattle.hap_cli.specs.Outcomes.{regular_outcome};
+
+    ghost from_gives = { λ fault outcome. outcome ≡ regular_outcome fault };
+
+    fn from(fault: RegularFault) -> Outcome {
+        match fault {
+            RegularFault::Memory => Outcome::Memory,
+            _ => Outcome::Refused(Refusal::Irregular(fault)),
+        }
+    }
+}
+
+impl From<ChainFault> for Outcome {
+    ghost use Rattle.std.specs.Prelude.{◌≡◌};
+    ghost use Rattle.hap_cli.specs.Outcomes.{chain_outcome};
+
+    ghost from_gives = { λ fault outcome. outcome ≡ chain_outcome fault };
+
+    fn from(fault: ChainFault) -> Outcome {
+        match fault {
+            ChainFault::TooManyChains(count) => Outcome::Refused(Refusal::Chains(count)),
+            ChainFault::Memory => Outcome::Memory,
         }
     }
 }

@@ -7,6 +7,7 @@ ghost use Rattle.hap_cli.specs.Refusals as refusals;
 use face_poset::{Cell, SpaceFault};
 use gap_text::TextFault;
 use hap_outside::{Failed, Piece, Sink, write_all, write_pieces};
+use regular_check::RegularFault;
 
 /// Why a command refuses its input.
 #[derive(Clone, Copy, Debug, PartialEq, Eq)]
@@ -17,6 +18,10 @@ pub enum Refusal {
     Text(TextFault),
     /// The value is no space, or one with too many cells.
     Space(SpaceFault),
+    /// The space breaks a rule of regularity.
+    Irregular(RegularFault),
+    /// The order complex of the space has so many chains, which is more than the limit.
+    Chains(u64),
 }
 
 /// The status of the refusal.
@@ -27,6 +32,8 @@ pub fn refusal_code(refusal: Refusal) -> u8
         Refusal::TooLong(_) => 5,
         Refusal::Text(_) => 3,
         Refusal::Space(fault) => space_code(fault),
+        Refusal::Irregular(_) => 4,
+        Refusal::Chains(_) => 5,
     }
 }
 
@@ -138,6 +145,55 @@ fn write_space<E: Sink>(err: &mut E, fault: SpaceFault) -> Result<(), Failed>
     }
 }
 
+fn write_rule<E: Sink>(err: &mut E, words: &[u8], cell: u32) -> Result<(), Failed>
+    ensures bytes { Writes (E.written err.old) (E.written err.new) (refusals.rule_line words.now cell) result }
+    ensures cause { HasCause (E.faults err.old) (E.faults err.new) result }
+{
+    let cell = Piece::Count(u64::from(cell));
+    write_pieces(
+        err,
+        &[
+            Piece::Text(b"hap: space: "),
+            Piece::Text(words),
+            Piece::Text(b", cell "),
+            cell,
+            Piece::Text(b"\n"),
+        ],
+    )
+}
+
+fn write_sphere<E: Sink>(err: &mut E, cell: u32, value: i64) -> Result<(), Failed>
+    ensures bytes { Writes (E.written err.old) (E.written err.new) (refusals.sphere_line cell value) result }
+    ensures cause { HasCause (E.faults err.old) (E.faults err.new) result }
+{
+    let cell = Piece::Count(u64::from(cell));
+    let value = Piece::Number(i128::from(value));
+    write_pieces(
+        err,
+        &[
+            Piece::Text(b"hap: space: not a sphere, cell "),
+            cell,
+            Piece::Text(b", value "),
+            value,
+            Piece::Text(b"\n"),
+        ],
+    )
+}
+
+fn write_regular<E: Sink>(err: &mut E, fault: RegularFault) -> Result<(), Failed>
+    ensures bytes { Writes (E.written err.old) (E.written err.new) (refusals.regular_line fault) result }
+    ensures cause { HasCause (E.faults err.old) (E.faults err.new) result }
+{
+    match fault {
+        RegularFault::EdgeEnds(cell) => write_rule(err, b"edge ends", cell),
+        RegularFault::NotCycle(cell) => write_rule(err, b"not a cycle", cell),
+        RegularFault::EdgeNotTwice(cell) => write_rule(err, b"edge not twice", cell),
+        RegularFault::Apart(cell) => write_rule(err, b"apart", cell),
+        RegularFault::NotSphere(cell, value) => write_sphere(err, cell, value),
+        RegularFault::Memory => write_all(err, b"hap: want of memory\n"),
+    }
+}
+
 fn write_limit<E: Sink>(err: &mut E, limit: u64) -> Result<(), Failed>
     ensures bytes { Writes (E.written err.old) (E.written err.new) (refusals.limit_line limit) result }
     ensures cause { HasCause (E.faults err.old) (E.faults err.new) result }
@@ -152,6 +208,20 @@ fn write_limit<E: Sink>(err: &mut E, limit: u64) -> Result<(), Failed>
     )
 }
 
+fn write_chains<E: Sink>(err: &mut E, count: u64) -> Result<(), Failed>
+    ensures bytes { Writes (E.written err.old) (E.written err.new) (refusals.chains_line count) result }
+    ensures cause { HasCause (E.faults err.old) (E.faults err.new) result }
+{
+    write_pieces(
+        err,
+        &[
+            Piece::Text(b"hap: limit: "),
+            Piece::Count(count),
+            Piece::Text(b" chains\n"),
+        ],
+    )
+}
+
 /// Writes the line of the refusal.
 pub fn write_refusal<E: Sink>(err: &mut E, refusal: Refusal) -> Result<(), Failed>
     ensures bytes { Writes (E.written err.old) (E.written err.new) (refusals.refusal_line refusal) result }
@@ -161,5 +231,7 @@ pub fn write_refusal<E: Sink>(err: &mut E, refusal: Refusal) -> Result<(), Faile
         Refusal::TooLong(limit) => write_limit(err, limit),
         Refusal::Text(fault) => write_text(err, fault),
         Refusal::Space(fault) => write_space(err, fault),
+        Refusal::Irregular(fault) => write_regular(err, fault),
+        Refusal::Chains(count) => write_chains(err, count),
     }
 }

@@ -3,23 +3,34 @@ ghost use Rattle.std.specs.Prelude.{◌≡◌, ◌≢◌, ◌⊎◌, ◌<◌, tr
 ghost use Rattle.std.specs.Io.KnownBytes.{IsAtEnd};
 ghost use Rattle.hap_outside.specs.Causes.{Rose};
 ghost use Rattle.hap_outside.specs.Stores.{bytes_under};
-ghost use Rattle.hap_words.specs.Asked.{cells, source_of, asked_of};
+ghost use Rattle.hap_words.specs.Asked.{cells, check, betti, source_of, asked_of};
+ghost use Rattle.hap_words.specs.Moduli.{is_modulus, has_modulus};
 ghost use Rattle.hap_words.specs.Table.{is_built, read as asked_by};
 ghost use Rattle.hap_cli.specs.declared.outcome.Outcome.{Outcome as AnOutcome};
 ghost use Rattle.hap_cli.specs.Input.{input_name};
 ghost use Rattle.hap_cli.specs.Refusals.{refusal};
-ghost use Rattle.hap_cli.specs.Outcomes.{status_of, line_of, status_for, Tells, IsEnd};
+ghost use Rattle.hap_cli.specs.Counting.{Counts, CountsIf};
+ghost use Rattle.hap_cli.specs.Outcomes.{status_of, line_of, status_for, Tells, IsEnd, written_outcome};
 
-use crate::cells::write_cells;
-use crate::input::{MOST_BYTES, read_input};
+use crate::betti::{few_betti, write_betti};
+use crate::cells::{write_cells, write_check};
 use crate::outcome::{Outcome, end_with};
-use crate::refusal::Refusal;
-use crate::space::read_space;
-use hap_outside::{Failed, ReadAll, Sink, Source, Steps};
+use crate::space::{read_space, regular_space};
+use hap_outside::{Failed, Sink, Source, Steps};
 use hap_words::{Command, Input, WordsFault, read};
 use std::alloc::Global;
 use std::mem::drop;
 use std::sync::ledger::Ledger;
+
+// How the run ends after its answer was written.
+fn written(answer: Result<(), Failed>) -> Outcome
+    ensures { result ≡ written_outcome answer }
+{
+    match answer {
+        Ok(()) => Outcome::Done,
+        Err(Failed) => Outcome::WriteFault,
+    }
+}
 
 // Reads a space and writes how many cells it has.
 fn run_cells<S: Source, K: Sink>(
@@ -37,32 +48,22 @@ fn run_cells<S: Source, K: Sink>(
     ensures end { result ≡ Outcome.Done → IsAtEnd (S.left source.new) }
     ensures nothing { result ≢ Outcome.Done → result ≢ Outcome.WriteFault → out.new ≡ out.old }
 {
-    let bytes = match read_input(alloc, input, source) {
-        Ok(bytes) => bytes,
-        Err(ReadAll::Fault) => return Outcome::ReadFault,
-        Err(ReadAll::TooLong) => return Outcome::Refused(Refusal::TooLong(MOST_BYTES)),
-        Err(ReadAll::Memory) => return Outcome::Memory,
-    };
-    let space = match read_space(alloc, &bytes) {
+    let space = match read_space(alloc, input, source) {
         Ok(space) => space,
         Err(outcome) => return outcome,
     };
-    match write_cells(out, &space) {
-        Ok(()) => Outcome::Done,
-        Err(Failed) => Outcome::WriteFault,
-    }
+    written(write_cells(out, &space))
 }
 
-// Reads the input of the command and writes its answer.
-fn perform<S: Source, K: Sink>(
+// Reads a regular space and writes how many cells and components it has.
+fn run_check<S: Source, K: Sink>(
     alloc: Global,
-    command: &Command,
+    input: &Input,
     source: &mut S,
     out: &mut K,
 ) -> Outcome
-    requires begun { S.begun source.old ≡ false }
-    requires built { is_built (asked_of command.now) ≡ true }
-    ensures cause { IsEnd (asked_of command.now) (S.store source.old)
+    requires { S.begun source.old ≡ false }
+    ensures cause { IsEnd (check (source_of input.now)) (S.store source.old)
         (Rose (S.faults source.old) (S.faults source.new)) (Rose (K.faults out.old) (K.faults out.new))
         (K.written out.old) (K.written out.new) result }
     ensures read_told { S.faults source.old < S.faults source.new → result ≡ Outcome.ReadFault }
@@ -70,18 +71,91 @@ fn perform<S: Source, K: Sink>(
     ensures end { result ≡ Outcome.Done → IsAtEnd (S.left source.new) }
     ensures nothing { result ≢ Outcome.Done → result ≢ Outcome.WriteFault → out.new ≡ out.old }
 {
+    let space = match read_space(alloc, input, source) {
+        Ok(space) => space,
+        Err(outcome) => return outcome,
+    };
+    let regular = match regular_space(alloc, &space) {
+        Ok(regular) => regular,
+        Err(outcome) => return outcome,
+    };
+    let components = match regular.components(alloc) {
+        Ok(components) => components,
+        Err(_) => return Outcome::Memory,
+    };
+    written(write_check(out, &space, components.count()))
+}
+
+// Reads a regular space and writes the Betti numbers of its order complex.
+fn run_betti<S: Source, K: Sink, L: Ledger>(
+    alloc: Global,
+    input: &Input,
+    modulus: u8,
+    source: &mut S,
+    out: &mut K,
+    steps: &mut Steps<L>,
+) -> Outcome
+    requires begun { S.begun source.old ≡ false }
+    requires modulus { is_modulus modulus ≡ true }
+    ensures cause { IsEnd (betti (source_of input.now) modulus) (S.store source.old)
+        (Rose (S.faults source.old) (S.faults source.new)) (Rose (K.faults out.old) (K.faults out.new))
+        (K.written out.old) (K.written out.new) result }
+    ensures read_told { S.faults source.old < S.faults source.new → result ≡ Outcome.ReadFault }
+    ensures write_told { K.faults out.old < K.faults out.new → result ≡ Outcome.WriteFault }
+    ensures end { result ≡ Outcome.Done → IsAtEnd (S.left source.new) }
+    ensures nothing { result ≢ Outcome.Done → result ≢ Outcome.WriteFault → out.new ≡ out.old }
+    ensures steps { Counts (betti (source_of input.now) modulus) (S.store source.old) steps.old steps.new }
+{
+    let space = match read_space(alloc, input, source) {
+        Ok(space) => space,
+        Err(outcome) => return outcome,
+    };
+    let regular = match regular_space(alloc, &space) {
+        Ok(regular) => regular,
+        Err(outcome) => return outcome,
+    };
+    let numbers = match few_betti(alloc, regular.space(), modulus, steps) {
+        Ok(numbers) => numbers,
+        Err(outcome) => return outcome,
+    };
+    written(write_betti(out, numbers))
+}
+
+// Reads the input of the command and writes its answer.
+fn perform<S: Source, K: Sink, L: Ledger>(
+    alloc: Global,
+    command: &Command,
+    source: &mut S,
+    out: &mut K,
+    steps: &mut Steps<L>,
+) -> Outcome
+    requires begun { S.begun source.old ≡ false }
+    requires built { is_built (asked_of command.now) ≡ true }
+    requires modulus { has_modulus (asked_of command.now) ≡ true }
+    ensures cause { IsEnd (asked_of command.now) (S.store source.old)
+        (Rose (S.faults source.old) (S.faults source.new)) (Rose (K.faults out.old) (K.faults out.new))
+        (K.written out.old) (K.written out.new) result }
+    ensures read_told { S.faults source.old < S.faults source.new → result ≡ Outcome.ReadFault }
+    ensures write_told { K.faults out.old < K.faults out.new → result ≡ Outcome.WriteFault }
+    ensures end { result ≡ Outcome.Done → IsAtEnd (S.left source.new) }
+    ensures nothing { result ≢ Outcome.Done → result ≢ Outcome.WriteFault → out.new ≡ out.old }
+    ensures steps { Counts (asked_of command.now) (S.store source.old) steps.old steps.new }
+{
     match command {
         Command::Cells { input } => run_cells(alloc, input, source, out),
+        Command::Check { input } => run_check(alloc, input, source, out),
+        Command::Betti { input, modulus } => run_betti(alloc, input, *modulus, source, out, steps),
         _ => Outcome::Usage,
     }
 }
 
 // Reads the words and does what they ask for.
-fn perform_words<S: Source, K: Sink>(
+fn perform_words<S: Source, K: Sink, L: Ledger>(
     alloc: Global,
     words: &[String],
     source: &mut S,
     out: &mut K,
+    steps: &mut Steps<L>,
 ) -> Outcome
     requires { S.begun source.old ≡ false }
     ensures cause { MatchOption (asked_by (map string_bytes words.now))
@@ -94,10 +168,11 @@ fn perform_words<S: Source, K: Sink>(
     ensures write_told { K.faults out.old < K.faults out.new → result ≡ Outcome.WriteFault }
     ensures end { result ≡ Outcome.Done → IsAtEnd (S.left source.new) }
     ensures nothing { result ≢ Outcome.Done → result ≢ Outcome.WriteFault → out.new ≡ out.old }
+    ensures steps { CountsIf (asked_by (map string_bytes words.now)) (S.store source.old) steps.old steps.new }
 {
     match read(alloc, words) {
         Ok(command) => {
-            let outcome = perform(alloc, &command, source, out);
+            let outcome = perform(alloc, &command, source, out, steps);
             drop(command);
             outcome
         }
@@ -150,8 +225,10 @@ pub fn run<S: Source, K: Sink, E: Sink, L: Ledger>(
     ensures end { result ≡ 0 → IsAtEnd (S.left source.new) }
     ensures nothing { result ≢ 0 → result ≢ 8 → out.new ≡ out.old }
     ensures silent { result ≡ 0 → err.new ≡ err.old }
-    ensures steps { steps.new ≡ steps.old }
+
+    // The row additions of reducing coboundaries are counted, and nothing else.
+    ensures steps { CountsIf (asked_by (map string_bytes words.now)) (S.store source.old) steps.old steps.new }
 {
-    let outcome = perform_words(alloc, words, source, out);
+    let outcome = perform_words(alloc, words, source, out, steps);
     end_with(err, outcome)
 }

@@ -14,6 +14,7 @@ use Rattle.hap_words.specs.declared.table.Name.{Name}
 use Rattle.hap_words.specs.declared.table.Name.TheVariants as name
 use Rattle.hap_words.specs.Line.{hap_app}
 use Rattle.hap_words.specs.Texts.{named, number_between}
+use Rattle.hap_words.specs.Moduli.{is_modulus}
 use Rattle.hap_words.specs.Asked.{Asked, Source, SearchPlace, cells, check, betti, cup, verify, group, covers, cover, report, make}
 
 -- ---- the words
@@ -96,7 +97,7 @@ value_of read (Some text) = read text
 
 abbrev pub if_modulus : Option ℕ → Option ℕ
 if_modulus None = None
-if_modulus (Some n) = if (n == 2) || ((n == 3) || ((n == 5) || (n == 7))) then Some n else None
+if_modulus (Some n) = if is_modulus n then Some n else None
 
 abbrev pub modulus_of : Text → Option ℕ
 modulus_of text = if_modulus (number_between 2 7 text)
@@ -169,6 +170,8 @@ asked words = unless_faulty (fault_of hap_app words) (asked_given (matches_of ha
 
 abbrev pub verb_is_built : Verb → Bool
 verb_is_built verb.Cells = true
+verb_is_built verb.Check = true
+verb_is_built verb.Betti = true
 verb_is_built other = false
 
 abbrev pub kind_is_built : Kind → Bool
