@@ -33,10 +33,10 @@ path_back step all s m (on {y} {z} q e g) = path_on step all (on at_start (s z y
 
 -- ---- how many numbers up to one pass a test
 
-abbrev passing : (ℕ → Bool) → ℕ → ℕ
+abbrev pub passing : (ℕ → Bool) → ℕ → ℕ
 passing p n = length (filter p (upto n))
 
-passing-more : (p : ℕ → Bool) (n : ℕ) → passing p (n + 1) ≡ passing p n + cond (p (n + 1)) 1 0
+pub passing-more : (p : ℕ → Bool) (n : ℕ) → passing p (n + 1) ≡ passing p n + cond (p (n + 1)) 1 0
 passing-more p n =
     ap (λ (xs : List ℕ). length (filter p xs)) (upto_more n)
     ∙ (ap length (filter-append p (upto n) ((n + 1) ∷ []))
@@ -77,10 +77,10 @@ module _ (space : List (List (List ℕ))) where
       same [] = refl
       same (e ∷ es) = ap (λ (t : Bool). t || list_any (λ d. holds (facets_of space 1 d) a && holds (facets_of space 1 d) b) es) (and_swap (holds (facets_of space 1 e) a) (holds (facets_of space 1 e) b)) ∙ ap (λ (t : Bool). (holds (facets_of space 1 e) b && holds (facets_of space 1 e) a) || t) (same es)
 
-  joined_path : (x y : ℕ) → In x (vertices space) → are_joined space x y ≡ true → Reaches (share_edge space) (vertices space) x y
+  pub joined_path : (x y : ℕ) → In x (vertices space) → are_joined space x y ≡ true → Reaches (share_edge space) (vertices space) x y
   joined_path x y m e = (reaches_is (share_edge space) (vertices space) x y (In-holds m)).0 e
 
-  path_joined : (x y : ℕ) → In x (vertices space) → Reaches (share_edge space) (vertices space) x y → are_joined space x y ≡ true
+  pub path_joined : (x y : ℕ) → In x (vertices space) → Reaches (share_edge space) (vertices space) x y → are_joined space x y ≡ true
   path_joined x y m p = (reaches_is (share_edge space) (vertices space) x y (In-holds m)).1 p
 
   -- what is joined to one of two joined vertices is joined to the other

@@ -14,4 +14,6 @@ pub mod Faults
 pub mod Walking
 pub mod Joined
 pub mod Leasts
+pub mod Numbered
 pub mod Parts
+pub mod Examples
