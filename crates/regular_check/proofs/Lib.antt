@@ -6,7 +6,14 @@ pub mod Cells
 pub mod Tallies
 pub mod Passing
 pub mod Inserted
+pub mod Spreading
+pub mod Distinct
+pub mod FaceCounts
 pub mod Searching
 pub mod Faults
 pub mod Walking
+pub mod Joined
+pub mod Leasts
+pub mod Numbered
 pub mod Parts
+pub mod Examples

@@ -1,22 +1,16 @@
 -- The search finds exactly what is connected with the first cell.
-use Rattle.std.proofs.Common.{◌≡◌, ◌↔◌, ◌⊎◌, inl, inr, ℕ, ◌+◌, ◌-◌, ◌<◌, ◌≤◌, List, [], ◌∷◌, true, eqb, map, length, get_or, refl, ap, sym, ◌∙◌, subst, arith, rules}
-use Rattle.std.specs.List.{list_all, sum, IsDistinct}
-use Rattle.std.proofs.lemmas.Cmp.{nat_eq_equiv}
+use Rattle.std.proofs.Common.{◌≡◌, ◌⊎◌, inl, inr, ℕ, ◌+◌, ◌-◌, ◌<◌, ◌≤◌, List, [], ◌∷◌, Bool, true, ◌&&◌, eqb, map, length, get_or, refl, ap, sym, ◌∙◌, subst, arith}
+use Rattle.std.specs.List.{list_all, sum}
 use Rattle.std.proofs.lemmas.Bool.{eqb-true}
-use Rattle.std.proofs.lemmas.Bool.Decides.{eqb_tells}
-use Rattle.std.proofs.lemmas.Map.Made.{length-le_from_is_member}
 use Rattle.face_poset.specs.Words.{holds}
 use Rattle.face_poset.specs.Poset.{IsCell, IsSpace, count, facets_of}
 use Rattle.regular_check.specs.declared.tally.Tally.{Tally}
-use Rattle.regular_check.specs.Reach.{reaches, Reaches, at_start, on}
+use Rattle.regular_check.specs.Reach.{reaches}
 use Rattle.regular_check.specs.Rules.{sharing, meet, each_twice, connected}
-use Rattle.regular_check.specs.Marks.{inserted_all}
 use Rattle.regular_check.specs.Tally.{tally_at, IsTally, AreOthers, other}
 use Rattle.regular_check.proofs.Members.{In, here, there, In-filter, filter-In, In-inside, any-In, any-some, all-In, In-all, holds-In, In-holds, In-at, at-In}
-use Rattle.regular_check.proofs.MarkLemmas.{any-holds}
 use Rattle.regular_check.proofs.Cells.{facets-cell}
-use Rattle.regular_check.proofs.Reach.{reaches_is}
-use Rattle.regular_check.proofs.Inserted.{AreMore, are_more}
+use Rattle.regular_check.proofs.Spreading.{AreNexts}
 
 -- ---- two numbers and their sum
 
@@ -112,94 +106,22 @@ module _ (space : List (List (List ℕ))) (dim : ℕ) (cells : List ℕ) (tallie
 
   -- ---- the search
 
-  -- what was found, where the cells that are met from the first `head` of it were found
-  pub record IsSearch (head : ℕ) (found : List ℕ) : Type 0 where
-    pub start : In (get_or cells 0 0) found
-    pub inside : (y : ℕ) → In y found → In y cells
-    pub reached : (y : ℕ) → In y found → Reaches (meet space dim) cells (get_or cells 0 0) y
-    pub closed : (k : ℕ) → k < head → k < length found → (z : ℕ) → In z cells → meet space dim (get_or found k 0) z ≡ true → In z found
-    pub distinct : IsDistinct eqb found
-
-  pub search_idle : (head : ℕ) (found : List ℕ) → length found ≤ head → IsSearch head found → IsSearch (head + 1) found
-  search_idle head found l s = record { start = s.start; inside = s.inside; reached = s.reached; closed = λ k a b. s.closed k (omega (arith, b, l)) b; distinct = s.distinct }
-
   map-In : (g : ℕ → ℕ) {y : ℕ} (xs : List ℕ) → In y (map g xs) → (x : ℕ) × In x xs × (y ≡ g x)
   map-In g [] h = elim h [ ]
   map-In g (x ∷ xs) here = (x, here, refl)
   map-In g (x ∷ xs) (there h) = let r = map-In g xs h in (r.0, there r.1, r.2)
 
-  pub search_more : IsReady → (head : ℕ) (found : List ℕ) → head < length found → IsSearch head found → IsSearch (head + 1) (inserted_all found (map (other tallies (get_or found head 0)) (facets_of space dim (get_or found head 0))))
-  search_more h head found l s =
-      let c : ℕ = get_or found head 0 in
-      let here_is : In c found = at-In found head 0 l in
-      let m : In c cells = s.inside c here_is in
-      let ns : List ℕ = map (other tallies c) (facets_of space dim c) in
-      let new : List ℕ = inserted_all found ns in
-      let a : AreMore found ns new = are_more found ns in
-      record {
-        start = a.kept (get_or cells 0 0) s.start;
-        inside = λ y i. elim (a.only y i) [
-          | inl p ↦ s.inside y p
-          | inr p ↦ let q = map-In (other tallies c) (facets_of space dim c) p in subst (λ (z : ℕ). In z cells) (sym q.2) (across_cell h c q.0 m q.1)
-        ];
-        reached = λ y i. elim (a.only y i) [
-          | inl p ↦ s.reached y p
-          | inr p ↦
-              let q = map-In (other tallies c) (facets_of space dim c) p in
-              subst (λ (z : ℕ). Reaches (meet space dim) cells (get_or cells 0 0) z) (sym q.2)
-              (on (s.reached c here_is) (across_meets h c q.0 m q.1) (In-holds (across_cell h c q.0 m q.1)))
-        ];
-        closed = λ k lt long z n e. by_place k (split k lt) z n e a;
-        distinct = a.distinct s.distinct;
-      }
+  pub across_nexts : IsReady → (c : ℕ) → In c cells → AreNexts (meet space dim) cells c (map (other tallies c) (facets_of space dim c))
+  across_nexts h c m = record {
+    inside = λ y i. let q = map-In (other tallies c) (facets_of space dim c) i in subst (λ (z : ℕ). In z cells) (sym q.2) (across_cell h c q.0 m q.1);
+    steps = λ y i. let q = map-In (other tallies c) (facets_of space dim c) i in subst (λ (z : ℕ). meet space dim c z ≡ true) (sym q.2) (across_meets h c q.0 m q.1);
+    others = λ z n e. meets_across h c z m n e;
+  }
+
+  -- where all cells were found, they are connected
+  pub connected_tells : (found : List ℕ) → ((y : ℕ) → holds found y ≡ reaches (meet space dim) cells (get_or cells 0 0) y) → list_all (holds found) cells ≡ connected space dim cells
+  connected_tells found h = list_all_same cells
     where
-      split : (k : ℕ) → k < head + 1 → (k < head) ⊎ (k ≡ head)
-      split k lt = elim (eqb_tells k head) [ inl p ↦ inr p.1 | inr p ↦ inl (omega (arith, p.1, lt)) ]
-
-      by_place : (k : ℕ) → (k < head) ⊎ (k ≡ head) → (z : ℕ) → In z cells
-          → meet space dim (get_or (inserted_all found (map (other tallies (get_or found head 0)) (facets_of space dim (get_or found head 0)))) k 0) z ≡ true
-          → AreMore found (map (other tallies (get_or found head 0)) (facets_of space dim (get_or found head 0))) (inserted_all found (map (other tallies (get_or found head 0)) (facets_of space dim (get_or found head 0))))
-          → In z (inserted_all found (map (other tallies (get_or found head 0)) (facets_of space dim (get_or found head 0))))
-      by_place k (inl p) z n e a =
-          let lt : k < length found = omega (arith, p, l) in
-          a.kept z (s.closed k p lt z n (subst (λ (x : ℕ). meet space dim x z ≡ true) (a.place k lt) e))
-      by_place k (inr p) z n e a =
-          let lt : k < length found = omega (arith, p, l) in
-          let e2 : meet space dim (get_or found head 0) z ≡ true = subst (λ (x : ℕ). meet space dim x z ≡ true) (a.place k lt ∙ ap (λ (j : ℕ). get_or found j 0) p) e in
-          elim (meets_across h (get_or found head 0) z (s.inside (get_or found head 0) (at-In found head 0 l)) n e2) [
-            | inl q ↦ a.kept z (subst (λ (x : ℕ). In x found) (sym q) (at-In found head 0 l))
-            | inr q ↦ a.added z q
-          ]
-
-  pub search_begun : 1 ≤ length cells → IsSearch 0 (get_or cells 0 0 ∷ [])
-  unfolding IsDistinct
-  search_begun some =
-      record {
-        start = here;
-        inside = λ y h. subst (λ (z : ℕ). In z cells) (sym (single h)) (at-In cells 0 0 (omega (arith, some)));
-        reached = λ y h. subst (λ (z : ℕ). Reaches (meet space dim) cells (get_or cells 0 0) z) (sym (single h)) at_start;
-        closed = λ k a. absurd (omega (arith, a));
-        distinct = search rules;
-      }
-    where
-      single : {x y : ℕ} → In x (y ∷ []) → x ≡ y
-      single here = refl
-      single (there h) = elim h [ ]
-
-  few_found : (head : ℕ) (found : List ℕ) → IsSearch head found → length found ≤ length cells
-  few_found head found s =
-      length-le_from_is_member nat_eq_equiv found cells s.distinct
-      (λ q e. any-holds cells q ∙ In-holds (s.inside q (holds-In found (sym (any-holds found q) ∙ e))))
-
-  all_reached : (head : ℕ) (found : List ℕ) → length cells ≤ head → IsSearch head found → {y : ℕ} → Reaches (meet space dim) cells (get_or cells 0 0) y → In y found
-  all_reached head found l s at_start = s.start
-  all_reached head found l s (on {y} {z} q e g) =
-      let a = In-at (all_reached head found l s q) in
-      s.closed a.0 (omega (arith, a.1, few_found head found s, l)) a.1 z (holds-In cells g) (subst (λ (x : ℕ). meet space dim x z ≡ true) (sym a.2) e)
-
-  pub search_tells : 1 ≤ length cells → (head : ℕ) (found : List ℕ) → length cells ≤ head → IsSearch head found → (list_all (holds found) cells ≡ true) ↔ (connected space dim cells ≡ true)
-  search_tells some head found l s =
-      let there : holds cells (get_or cells 0 0) ≡ true = In-holds (at-In cells 0 0 (omega (arith, some))) in (
-        λ e. In-all (reaches (meet space dim) cells (get_or cells 0 0)) cells (λ y m. (reaches_is (meet space dim) cells (get_or cells 0 0) y there).1 (s.reached y (holds-In found (all-In (holds found) e m)))),
-        λ e. In-all (holds found) cells (λ y m. In-holds (all_reached head found l s ((reaches_is (meet space dim) cells (get_or cells 0 0) y there).0 (all-In (reaches (meet space dim) cells (get_or cells 0 0)) e m)))),
-      )
+      list_all_same : (ys : List ℕ) → list_all (holds found) ys ≡ list_all (reaches (meet space dim) cells (get_or cells 0 0)) ys
+      list_all_same [] = refl
+      list_all_same (y ∷ ys) = ap (λ (b : Bool). b && list_all (holds found) ys) (h y) ∙ ap (λ (b : Bool). reaches (meet space dim) cells (get_or cells 0 0) y && b) (list_all_same ys)

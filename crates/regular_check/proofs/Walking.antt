@@ -41,7 +41,7 @@ other_first (a ∷ b ∷ []) e l h (there (there m)) = elim m [ ]
 other_first (a ∷ b ∷ c ∷ xs) e l h m = absurd (omega arith)
 
 -- the first of an increasing list is the least
-low_least : (fs : List ℕ) (m : ℕ) → IsStrictlyIncreasing fs → In m fs → get_or fs 0 0 ≤ m
+pub low_least : (fs : List ℕ) (m : ℕ) → IsStrictlyIncreasing fs → In m fs → get_or fs 0 0 ≤ m
 low_least fs m h i = by_place (In-at i).0 (In-at i).1 (In-at i).2
   where
     by_place : (k : ℕ) → k < length fs → get_or fs k 0 ≡ m → get_or fs 0 0 ≤ m

@@ -3,3 +3,4 @@ pub mod Rules
 pub mod Marks
 pub mod Tally
 pub mod Cycle
+pub mod Components

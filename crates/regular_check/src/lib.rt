@@ -4,6 +4,8 @@
 //! no vertex, and the boundary of each 3-cell is a sphere. Cells are numbered from 1 in each dimension.
 #![tactic(auto)]
 
+mod boundary;
+mod components;
 mod cycles;
 mod fault;
 mod laws;
@@ -13,9 +15,10 @@ mod rules;
 mod search;
 mod tally;
 
+pub use components::Components;
 pub use cycles::Step;
 pub use fault::RegularFault;
-pub use laws::rounds_reach_what_steps_lead_to;
+pub use laws::{rounds_reach_what_steps_lead_to, same_component_is_a_path};
 pub use regular::{Regular, check};
 
 #[cfg(test)]

@@ -1,6 +1,6 @@
-ghost use Rattle.std.specs.Prelude.{◌≡◌, ◌↔◌, ◌≤◌, ◌<◌, [], length, true, slice_index_or, IfOk, OnOk, IsTrue};
+ghost use Rattle.std.specs.Prelude.{◌≡◌, ℕ, ◌+◌, ◌≤◌, ◌<◌, [], length, cond, slice_index, slice_index_or, All, IfOk, OnOk};
 ghost use Rattle.face_poset.specs.Words.{holds};
-ghost use Rattle.regular_check.specs.Marks.{inserted};
+ghost use Rattle.regular_check.specs.Marks.{inserted, inserted_all};
 
 use std::alloc::{AllocError, Global};
 use std::marker::Model;
@@ -74,6 +74,28 @@ impl Marks {
             self.marks[at] = true;
         }
         Ok(())
+    }
+
+    /// Puts these numbers last, one after another, each if it is not there.
+    pub(crate) fn insert_all(&mut self, numbers: &[u32]) -> Result<(), AllocError>
+        requires { All (λ n. (1 ≤ n) × (n ≤ self.old.most)) numbers.now }
+        ensures most { self.new.most ≡ self.old.most }
+        ensures numbers { OnOk result (self.new.numbers ≡ inserted_all self.old.numbers numbers.now) }
+    {
+        for number in numbers {
+            self.insert(*number)?;
+        }
+        Ok(())
+    }
+
+    /// Writes the value at each number that is there, where places are counted from 1.
+    pub(crate) fn write(&self, value: u32, places: &mut [u32])
+        requires { self.now.most ≤ length places.old }
+        ensures { (k : ℕ) → k < length places.old → slice_index places.new k ≡ cond (holds self.now.numbers (k + 1)) value (slice_index places.old k) }
+    {
+        for number in &self.found {
+            places[*number as usize - 1] = value;
+        }
     }
 
     /// Takes all numbers out.

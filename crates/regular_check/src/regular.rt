@@ -2,14 +2,16 @@ ghost use Rattle.std.specs.Prelude.{◌≡◌, ◌≤◌, IfOk, MatchResult};
 ghost use Rattle.face_poset.specs.Poset.{count};
 ghost use Rattle.regular_check.specs.Rules.{IsRegular, IsFault, first_fault};
 ghost use Rattle.regular_check.specs.Cycle.{cycle};
+ghost use Rattle.regular_check.specs.Components.{components_of};
 
+use crate::components::{Components, find_components};
 use crate::cycles::{Cycles, Step, all_cycles};
 use crate::fault::RegularFault;
 use crate::marks::Marks;
 use crate::rules::{check_disks, check_edges, check_solids};
 use crate::tally::NONE;
 use face_poset::{Graded, Space};
-use std::alloc::Global;
+use std::alloc::{AllocError, Global};
 use std::marker::Model;
 
 /// A space that is regular. Contracts see it as the space.
@@ -53,6 +55,13 @@ impl<'a> Regular<'a> {
         let end = self.cycles.ends[cell as usize];
         &self.cycles.steps[start..end]
     }
+
+    /// The connected components of the space, numbered from 1 in the order of their least vertices.
+    pub fn components(&self, alloc: Global) -> Result<Components, AllocError>
+        ensures { IfOk result (λ components. components ≡ components_of self.now) }
+    {
+        find_components(alloc, self.space)
+    }
 }
 
 /// Tells whether the space is regular, or the first rule that it breaks.
@@ -73,7 +82,7 @@ pub fn check<'a>(alloc: Global, space: &'a Space) -> Result<Regular<'a>, Regular
     let mut tallies = vec![in alloc; NONE; most]?;
     let mut found = Marks::new(alloc, most)?;
     check_disks(space, &mut tallies, &mut found)?;
-    check_solids(alloc, space, &mut tallies, &mut found)?;
+    check_solids(space, &mut tallies, &mut found)?;
     let cycles = all_cycles(alloc, space, &mut tallies)?;
     Ok(Regular { space, cycles })
 }

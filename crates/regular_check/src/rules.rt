@@ -1,18 +1,17 @@
 // The rules of a regular space, cell by cell.
-ghost use Rattle.std.specs.Prelude.{◌≡◌, ◌≤◌, ◌==◌, length, filter, None, OnOk, MatchResult, pos, ◌+ℤ◌, ◌-ℤ◌};
+ghost use Rattle.std.specs.Prelude.{◌≡◌, ◌≢◌, ◌≤◌, ◌+◌, length, None, IfErr, OnOk, MatchResult, pos, ◌+ℤ◌, ◌-ℤ◌};
 ghost use Rattle.std.specs.List.{flat_map};
 ghost use Rattle.face_poset.specs.Words.{upto};
 ghost use Rattle.face_poset.specs.Poset.{count};
-ghost use Rattle.face_poset.specs.declared.cells.Cell.{Cell};
 ghost use Rattle.regular_check.specs.Rules.{edge_rules, disk_rules, solid_rules, fault_in, IsFault};
 ghost use Rattle.regular_check.specs.Tally.{IsBlank};
 
+use crate::boundary::{count_edges, count_vertices};
 use crate::fault::RegularFault;
 use crate::marks::Marks;
 use crate::search::shape_of;
 use crate::tally::Tally;
-use face_poset::{CellList, Graded, Space};
-use std::alloc::Global;
+use face_poset::{Graded, Space};
 
 /// Finds the first edge without two ends.
 pub(crate) fn check_edges(space: &Space) -> Result<(), RegularFault>
@@ -48,23 +47,8 @@ pub(crate) fn check_disks(
     Ok(())
 }
 
-/// How many cells of a dimension are in the list.
-fn count_of(cells: &CellList, dim: u8) -> u32
-    requires { length cells.now ≤ 4294967295 }
-    ensures { result ≡ length (filter (λ (face : Cell). face.dim == dim) cells.now) }
-{
-    let mut number = 0;
-    for index in 0..cells.len() {
-        if cells.get(index).dim == dim {
-            number += 1;
-        }
-    }
-    number
-}
-
 /// Finds a fault of the boundary of a 3-cell.
 fn check_solid(
-    alloc: Global,
     space: &Space,
     cell: u32,
     tallies: &mut [Tally],
@@ -74,23 +58,31 @@ fn check_solid(
     requires last { cell ≤ count space.now 3 }
     requires few { count space.now 2 ≤ 60000 }
     requires room { count space.now 1 ≤ length tallies.old }
-    requires most { count space.now 2 ≤ found.old.most }
+    requires most { count space.now 0 + count space.now 1 + count space.now 2 ≤ found.old.most }
     requires blank { IsBlank tallies.old }
     ensures most { found.new.most ≡ found.old.most }
     ensures blank { OnOk result (IsBlank tallies.new) }
     ensures fault { MatchResult result (λ _. fault_in (solid_rules space.now cell) ≡ None) (IsFault (fault_in (solid_rules space.now cell))) }
 {
-    let shape = shape_of(space, 2, space.facets(3, cell), tallies, found)?;
+    let disks = space.facets(3, cell);
+    let shape = shape_of(space, 2, disks, tallies, found)?;
     if !shape.is_closed {
         return Err(RegularFault::EdgeNotTwice(cell));
     }
     if !shape.is_connected {
         return Err(RegularFault::Apart(cell));
     }
-    let faces = space.below(alloc, 3, cell)?;
-    let vertices = count_of(&faces, 0);
-    let edges = count_of(&faces, 1);
-    let disks = count_of(&faces, 2);
+    let vertices = count_vertices(space, disks, found)?;
+    let edges = count_edges(space, disks, found)?;
+    check_sphere(cell, vertices, edges, disks.len() as u32)
+}
+
+/// Finds the fault of a 3-cell with so many vertices, edges and 2-cells in its boundary, if they are not
+/// those of a sphere.
+fn check_sphere(cell: u32, vertices: u32, edges: u32, disks: u32) -> Result<(), RegularFault>
+    ensures kept { OnOk result (vertices + disks ≡ edges + 2) }
+    ensures broken { IfErr result (λ fault. (fault ≡ RegularFault.NotSphere cell ((pos vertices -ℤ pos edges) +ℤ pos disks)) × (vertices + disks ≢ edges + 2)) }
+{
     if u64::from(vertices) + u64::from(disks) == u64::from(edges) + 2 {
         Ok(())
     } else {
@@ -108,20 +100,19 @@ fn no_sphere(cell: u32, vertices: u32, edges: u32, disks: u32) -> RegularFault
 
 /// Finds the first fault of the boundaries of 3-cells.
 pub(crate) fn check_solids(
-    alloc: Global,
     space: &Space,
     tallies: &mut [Tally],
     found: &mut Marks,
 ) -> Result<(), RegularFault>
     requires room { count space.now 1 ≤ length tallies.old }
-    requires most { count space.now 2 ≤ found.old.most }
+    requires most { count space.now 0 + count space.now 1 + count space.now 2 ≤ found.old.most }
     requires blank { IsBlank tallies.old }
     ensures most { found.new.most ≡ found.old.most }
     ensures blank { OnOk result (IsBlank tallies.new) }
     ensures fault { MatchResult result (λ _. fault_in (flat_map (solid_rules space.now) (upto (count space.now 3))) ≡ None) (IsFault (fault_in (flat_map (solid_rules space.now) (upto (count space.now 3))))) }
 {
     for index in 0..space.cells(3) {
-        check_solid(alloc, space, index + 1, tallies, found)?;
+        check_solid(space, index + 1, tallies, found)?;
     }
     Ok(())
 }

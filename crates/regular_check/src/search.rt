@@ -1,8 +1,8 @@
 // The search that tells whether cells are connected across their facets.
-ghost use Rattle.std.specs.Prelude.{◌≡◌, ◌↔◌, ◌≤◌, ◌-◌, length, true, map, OnOk, IfOk, IsTrue};
-ghost use Rattle.std.specs.List.{list_all};
+ghost use Rattle.std.specs.Prelude.{◌≡◌, ◌≤◌, ◌-◌, length, true, map, All, OnOk, IfOk};
+ghost use Rattle.std.specs.List.{list_all, flat_map};
 ghost use Rattle.face_poset.specs.Words.{holds};
-ghost use Rattle.face_poset.specs.Poset.{IsCell, count};
+ghost use Rattle.face_poset.specs.Poset.{IsCell, count, facets_of};
 ghost use Rattle.regular_check.specs.Marks.{inserted_all};
 ghost use Rattle.regular_check.specs.Rules.{each_twice, connected};
 ghost use Rattle.regular_check.specs.Tally.{IsTally, IsBlank, AreOthers, other};
@@ -27,6 +27,25 @@ fn find_across(
     for facet in facets {
         let across = tallies[*facet as usize - 1].sum - u64::from(cell);
         found.insert(across as u32)?;
+    }
+    Ok(())
+}
+
+/// Puts the facets of these cells among those found.
+pub(crate) fn insert_facets(
+    space: &Space,
+    dim: u8,
+    cells: &[u32],
+    found: &mut Marks,
+) -> Result<(), AllocError>
+    requires low { 1 ≤ dim }
+    requires cells { All (λ c. (1 ≤ c) × (c ≤ count space.now dim)) cells.now }
+    requires most { count space.now (dim - 1) ≤ found.old.most }
+    ensures most { found.new.most ≡ found.old.most }
+    ensures numbers { OnOk result (found.new.numbers ≡ inserted_all found.old.numbers (flat_map (facets_of space.now dim) cells.now)) }
+{
+    for cell in cells {
+        found.insert_all(space.facets(dim, *cell))?;
     }
     Ok(())
 }

@@ -101,3 +101,26 @@ fn walks_cycles_from_the_least_vertex_along_the_lower_edge(rt: HostRuntime) -> R
     assert_eq!(rt; regular.space().cells(2), 3);
     Ok(())
 }
+
+#[test]
+fn numbers_components_by_their_least_vertices(rt: HostRuntime) -> Result<(), Fail> {
+    let rows = [
+        ("[[[1,0],[1,0]]]", 2u32, [1u32, 2]),
+        ("[[[1,0],[1,0]],[[2,1,2],[2,1,2]]]", 1, [1, 1]),
+    ];
+    for (text, count, numbers) in rows {
+        let space = read(rt.alloc(), text)?;
+        let regular = match check(rt.alloc(), &space) {
+            Ok(regular) => regular,
+            Err(fault) => return Err(Fail::from(fault)),
+        };
+        let components = regular.components(rt.alloc())?;
+        assert_eq!(rt; components.count(), count, "{text}");
+        if regular.space().cells(0) == 2 {
+            assert_eq!(rt; components.of(1), numbers[0], "{text}");
+            assert_eq!(rt; components.of(2), numbers[1], "{text}");
+        }
+        assert_eq!(rt; regular.space().cells(0), 2, "{text}");
+    }
+    Ok(())
+}

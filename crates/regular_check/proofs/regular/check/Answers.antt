@@ -1,4 +1,4 @@
-use Rattle.std.proofs.Common.{[], length, ◌≡◌, ◌++◌, ℕ, List, ◌∙◌, None}
+use Rattle.std.proofs.Common.{rules, [], length, ◌≡◌, ◌++◌, ℕ, List, ◌∙◌, None}
 use Rattle.std.specs.List.{flat_map}
 use Rattle.std.proofs.lemmas.Result.{err_from_is_err_and}
 use Rattle.face_poset.specs.Words.{upto}
@@ -48,7 +48,8 @@ returns-in_err-check_disks-clause-fault c =
 pub returns-in_err-check_solids-clause-fault : goal.returns-in_err-check_solids-clause-fault
 returns-in_err-check_solids-clause-fault c =
     let p = err_from_is_err_and c.from_residual-in_err-check_solids.result c.from_residual-in_err-check_solids.ensures.1 in
-    rw (p.1, p.2) (at_solids c.args.space.now c.in_err-check_solids.field-0.0 c.in_ok-check_edges.ensures c.in_ok-check_disks.ensures.fault c.in_err-check_solids.ensures.fault)
+    let none : fault_in (disks c.args.space.now) ≡ None = search rules in
+    rw (p.1, p.2) (at_solids c.args.space.now c.in_err-check_solids.field-0.0 c.in_ok-check_edges.ensures none c.in_err-check_solids.ensures.fault)
 
 pub invariant_of-result : goal.invariant_of-result
 invariant_of-result c = (none_at_all c.args.space.now c.in_ok-check_edges.ensures c.in_ok-check_disks.ensures.fault c.in_ok-check_solids.ensures.fault, c.in_ok-cycles.ensures)

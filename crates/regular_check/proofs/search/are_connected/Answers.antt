@@ -2,28 +2,26 @@ use Rattle.std.proofs.Common.{◌≡◌, ◌<◌, ◌≤◌, ◌+◌, ℕ, List,
 use Rattle.std.proofs.lemmas.List.{get_or_default}
 use Rattle.face_poset.specs.Poset.{IsCell, count, facets_of}
 use Rattle.regular_check.specs.declared.tally.Tally.{Tally}
-use Rattle.regular_check.specs.Rules.{connected}
-use Rattle.std.specs.List.{list_all}
-use Rattle.face_poset.specs.Words.{holds}
+use Rattle.regular_check.specs.Rules.{meet}
 use Rattle.regular_check.specs.Marks.{Found, inserted, inserted_all}
 use Rattle.regular_check.specs.Tally.{AreOthers, other}
 use Rattle.regular_check.proofs.Members.{In, at-In, In-at}
-use Rattle.regular_check.proofs.Passing.{same_bool}
 use Rattle.regular_check.proofs.Cells.{facets-cell}
-use Rattle.regular_check.proofs.Searching.{IsReady, IsSearch, search_begun, search_idle, search_more, search_tells, others_are}
+use Rattle.regular_check.proofs.Spreading.{IsSearch, search_begun, search_idle, search_more, few_found, search_tells}
+use Rattle.regular_check.proofs.Searching.{IsReady, across_nexts, connected_tells, others_are}
 use Rattle.regular_check.proofs.search.are_connected.Goals as goal
 use Rattle.regular_check.proofs.search.are_connected.Goals.{then-head-len+in_ok-find_across, else-head-len}
 
 pub loop-head-init : goal.loop-head-init
 loop-head-init c = (
   c.insert.ensures.most ∙ c.clear.ensures.most,
-  subst (IsSearch c.args.space.now c.args.dim c.args.cells.now c.args.tallies.now 0)
+  subst (IsSearch (meet c.args.space.now c.args.dim) c.args.cells.now (get_or c.args.cells.now 0 0) 0)
       (sym (c.in_ok-insert.ensures.numbers ∙ ap (λ (ns : List ℕ). inserted ns (get_or c.args.cells.now 0 0)) c.clear.ensures.numbers))
-      (search_begun c.args.space.now c.args.dim c.args.cells.now c.args.tallies.now c.requires.cells.some),
+      (search_begun (meet c.args.space.now c.args.dim) c.args.cells.now (get_or c.args.cells.now 0 0) (at-In c.args.cells.now 0 0 (omega (arith, c.requires.cells.some)))),
 )
 
 -- the cell that was found at a place is one of the cells
-found_cell : (space : List (List (List ℕ))) (dim : ℕ) (cells : List ℕ) (tallies : List Tally) (head : ℕ) (found : List ℕ) (cell : ℕ) → IsCell (count space dim) cells → IsSearch space dim cells tallies head found
+found_cell : (space : List (List (List ℕ))) (dim : ℕ) (cells : List ℕ) (tallies : List Tally) (head : ℕ) (found : List ℕ) (cell : ℕ) → IsCell (count space dim) cells → IsSearch (meet space dim) cells (get_or cells 0 0) head found
     → head < length found → cell ≡ get_or found head cell → (cell ≡ get_or found head 0) × (1 ≤ cell) × (cell ≤ count space dim) × In cell cells
 found_cell space dim cells tallies head found cell h s l e =
     let same : cell ≡ get_or found head 0 = e ∙ get_or_default found head cell 0 l in
@@ -53,12 +51,12 @@ find_across-requires-clause-others c =
     (others_are c.args.space.now c.args.dim c.args.cells.now c.args.tallies.now ready c.get-cell.result c.loop-head.found.most w.3 (omega (arith, c.loop-head.invariant.0, c.requires.most)))
 
 -- the state after a turn
-found_more : (space : List (List (List ℕ))) (dim : ℕ) (cells : List ℕ) (tallies : List Tally) (head : ℕ) (found new facets : List ℕ) (cell : ℕ) → IsReady space dim cells tallies → IsSearch space dim cells tallies head found
-    → head < length found → cell ≡ get_or found head 0 → facets ≡ facets_of space dim cell → new ≡ inserted_all found (map (other tallies cell) facets) → IsSearch space dim cells tallies (head + 1) new
+found_more : (space : List (List (List ℕ))) (dim : ℕ) (cells : List ℕ) (tallies : List Tally) (head : ℕ) (found new facets : List ℕ) (cell : ℕ) → IsReady space dim cells tallies → IsSearch (meet space dim) cells (get_or cells 0 0) head found
+    → head < length found → cell ≡ get_or found head 0 → facets ≡ facets_of space dim cell → new ≡ inserted_all found (map (other tallies cell) facets) → IsSearch (meet space dim) cells (get_or cells 0 0) (head + 1) new
 found_more space dim cells tallies head found new facets cell ready s l same e is =
-    subst (IsSearch space dim cells tallies (head + 1))
+    subst (IsSearch (meet space dim) cells (get_or cells 0 0) (head + 1))
     (sym (is ∙ (ap (λ (fs : List ℕ). inserted_all found (map (other tallies cell) fs)) e ∙ ap (λ (x : ℕ). inserted_all found (map (other tallies x) (facets_of space dim x))) same)))
-    (search_more space dim cells tallies ready head found l s)
+    (search_more (meet space dim) cells (get_or cells 0 0) head found l s (map (other tallies (get_or found head 0)) (facets_of space dim (get_or found head 0))) (across_nexts space dim cells tallies ready (get_or found head 0) (s.inside (get_or found head 0) (at-In found head 0 l))))
 
 pub loop-head-preserved : goal.loop-head-preserved
 loop-head-preserved c =
@@ -73,12 +71,15 @@ loop-head-preserved c =
           )
       | else-head-len w ↦ (
         ap (λ (m : Found). m.most) w.found-is ∙ c.loop-head.invariant.0,
-        subst (IsSearch c.args.space.now c.args.dim c.args.cells.now c.args.tallies.now (c.loop-head.head + 1)) (sym (ap (λ (m : Found). m.numbers) w.found-is))
-            (search_idle c.args.space.now c.args.dim c.args.cells.now c.args.tallies.now c.loop-head.head c.loop-head.found.numbers (omega (arith, w.if-head-len.false, c.len.ensures)) c.loop-head.invariant.1),
+        subst (IsSearch (meet c.args.space.now c.args.dim) c.args.cells.now (get_or c.args.cells.now 0 0) (c.loop-head.head + 1)) (sym (ap (λ (m : Found). m.numbers) w.found-is))
+            (search_idle (meet c.args.space.now c.args.dim) c.args.cells.now (get_or c.args.cells.now 0 0) c.loop-head.head c.loop-head.found.numbers (omega (arith, w.if-head-len.false, c.len.ensures)) c.loop-head.invariant.1),
       )
     ]
 
 pub returns-clause-connected : goal.returns-clause-connected
 returns-clause-connected c =
-    let t = search_tells c.args.space.now c.args.dim c.args.cells.now c.args.tallies.now c.requires.cells.some c.loop-head.head c.loop-head.found.numbers (omega (arith, c.loop-head-test.false)) c.loop-head.invariant.1 in
-    c.are_found.ensures ∙ same_bool (list_all (holds c.loop-head.found.numbers) c.args.cells.now) (connected c.args.space.now c.args.dim c.args.cells.now) t.0 t.1
+    let found : List ℕ = c.loop-head.found.numbers in
+    let few : length found ≤ length c.args.cells.now = few_found (meet c.args.space.now c.args.dim) c.args.cells.now (get_or c.args.cells.now 0 0) c.loop-head.head found c.loop-head.invariant.1 in
+    c.are_found.ensures
+    ∙ connected_tells c.args.space.now c.args.dim c.args.cells.now c.args.tallies.now found
+    (search_tells (meet c.args.space.now c.args.dim) c.args.cells.now (get_or c.args.cells.now 0 0) c.loop-head.head found (omega (arith, c.loop-head-test.false, few)) c.loop-head.invariant.1)
