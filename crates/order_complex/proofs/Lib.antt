@@ -18,3 +18,4 @@ pub mod Cancel
 pub mod ChainBounds
 pub mod Held
 pub mod ValueLemmas
+pub mod Cofaces
