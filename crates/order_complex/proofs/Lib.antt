@@ -19,3 +19,5 @@ pub mod ChainBounds
 pub mod Held
 pub mod ValueLemmas
 pub mod Cofaces
+pub mod LineLemmas
+mod Examples
