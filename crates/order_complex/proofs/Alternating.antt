@@ -1,5 +1,5 @@
 -- Alternating sums over a chain with one entry left out.
-use Rattle.std.proofs.Common.{◌≡◌, ℕ, ◌<◌, List, [], ◌∷◌, map, refl, ap, sym, ◌∙◌}
+use Rattle.std.proofs.Common.{◌≡◌, ℕ, ◌<◌, List, [], ◌∷◌, map, refl, ap, sym}
 use Rattle.small_field.specs.Field.{Ops, IsField}
 use Rattle.small_field.proofs.Laws.{zero_below, add_zero, add_swap, neg_add, neg_zero}
 use Rattle.order_complex.specs.Cochains.{alternating, leave_out}

@@ -3,14 +3,14 @@ use Rattle.std.proofs.Common.{◌≡◌, ℕ, zero, suc, ◌+◌, ◌<◌, List,
 use Rattle.std.specs.List.{AllByRecursion}
 use Rattle.std.proofs.lemmas.List.{length-map}
 use Rattle.small_field.specs.Field.{Ops, IsField}
-use Rattle.small_field.proofs.Laws.{add_cancel, add_zero, add_swap, zero_below, neg_mul}
+use Rattle.small_field.proofs.Laws.{add_cancel, add_zero, add_swap, neg_mul}
 use Rattle.linear_algebra.specs.Vectors.{plus_scaled, combination, IsVector, IsMatrix, AreElements, InSpan, IsInKernel}
 use Rattle.linear_algebra.specs.Echelon.{IsReducedTo}
-use Rattle.linear_algebra.specs.Betti.{IsCohomologyBasis, HasBasis}
+use Rattle.linear_algebra.specs.Betti.{IsCohomologyBasis}
 use Rattle.linear_algebra.proofs.Span.{combination-vector, combination-plus, span_plus, plus_scaled-vector}
 use Rattle.linear_algebra.proofs.Betti.{basis_by_ranks}
 use Rattle.order_complex.specs.Chains.{chains_of}
-use Rattle.order_complex.specs.Cochains.{coboundary, coboundary_on, mark, zeros}
+use Rattle.order_complex.specs.Cochains.{coboundary, coboundary_on, mark}
 use Rattle.order_complex.specs.Homology.{IsCocycle, IsCoboundary, IsClass, IsBasis, IsBetti}
 use Rattle.order_complex.specs.Ranks.{rows_of, rows_into}
 use Rattle.order_complex.proofs.Ordered.{ordered-chains_of}

@@ -1,12 +1,12 @@
 -- Over a chain and a chain with two entries left out the products of signs cancel.
-use Rattle.std.proofs.Common.{◌≡◌, ◌≢◌, ◌⊎◌, inl, inr, ℕ, zero, suc, ◌+◌, ◌-◌, ◌*◌, ◌<◌, ◌≤◌, List, [], ◌∷◌, ◌++◌, Bool, true, false, cond, not, ◌||◌, ◌==◌, eqb, map, reverse, length, get_or, refl, ap, sym, ◌∙◌, subst, arith, eq-eqb}
+use Rattle.std.proofs.Common.{◌≡◌, ◌≢◌, inl, inr, ℕ, zero, suc, ◌+◌, ◌-◌, ◌*◌, ◌<◌, ◌≤◌, List, [], ◌∷◌, ◌++◌, Bool, true, false, cond, not, ◌||◌, eqb, map, reverse, length, get_or, refl, ap, sym, ◌∙◌, subst, arith, eq-eqb}
 use Rattle.std.specs.Prelude.{ℤ, pos, negsuc, ◌+ℤ◌, ◌-ℤ◌, ◌*ℤ◌}
-use Rattle.std.specs.List.{AllByRecursion, list_any}
-use Rattle.std.proofs.Math.IntN.{neg_ℤ, +ℤ_assoc, +ℤ_comm, +ℤ_idr, +ℤ_idl, +ℤ_invr, neg_ℤ-+ℤ, neg_ℤ-neg_ℤ, *ℤ_comm, pos-*ℤ-pos, negsuc-*ℤ-pos, zero-*ℤ, *ℤ-zero, *ℤ-negsuc}
+use Rattle.std.specs.List.{AllByRecursion}
+use Rattle.std.proofs.Math.IntN.{neg_ℤ, +ℤ_assoc, +ℤ_comm, +ℤ_idr, +ℤ_idl, neg_ℤ-+ℤ, neg_ℤ-neg_ℤ, *ℤ_comm, pos-*ℤ-pos, negsuc-*ℤ-pos, *ℤ-zero, *ℤ-negsuc}
 use Rattle.std.proofs.lemmas.Bool.{eqb-true}
 use Rattle.std.proofs.lemmas.List.{reverse-append, length-map, get_or-map}
 use Rattle.face_poset.specs.Words.{holds}
-use Rattle.face_poset.specs.Poset.{layer, count, facets_of}
+use Rattle.face_poset.specs.Poset.{count, facets_of}
 use Rattle.face_poset.specs.Signs.{sign_of, sum_to, SignsCancel}
 use Rattle.order_complex.specs.Chains.{chains_of}
 use Rattle.order_complex.specs.Cochains.{leave_out}
@@ -15,7 +15,7 @@ use Rattle.order_complex.proofs.Members.{Member}
 use Rattle.order_complex.proofs.Chained.{leave_out-member}
 use Rattle.order_complex.proofs.Ordered.{ordered-chains_of}
 use Rattle.order_complex.proofs.Graded.{Falls, numbers-fall, placed, member-at}
-use Rattle.order_complex.proofs.Integers.{alternating_sum, twice_around, less_zero}
+use Rattle.order_complex.proofs.Integers.{alternating_sum, twice_around}
 
 -- ---- sums
 
@@ -71,7 +71,7 @@ or-comm true false = refl
 or-comm false true = refl
 or-comm false false = refl
 
-holds-reverse : (t : ℕ) (xs : List ℕ) → holds (reverse xs) t ≡ holds xs t
+pub holds-reverse : (t : ℕ) (xs : List ℕ) → holds (reverse xs) t ≡ holds xs t
 holds-reverse t [] = refl
 holds-reverse t (x ∷ xs) =
     ap (λ ys. holds ys t) (reverse-cons x xs) ∙ any-append t (reverse xs) (x ∷ []) ∙ ap (λ b. holds (reverse xs) t || b) (or-false (eqb x t)) ∙ ap (λ b. b || eqb x t) (holds-reverse t xs) ∙ or-comm (holds xs t) (eqb x t)

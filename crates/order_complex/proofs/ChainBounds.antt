@@ -1,24 +1,23 @@
 -- Bounds on faces, chains and counts that the code asks for.
-use Rattle.std.proofs.Common.{◌≡◌, ◌⊎◌, inl, inr, ℕ, zero, suc, ◌+◌, ◌-◌, ◌<◌, ◌≤◌, List, [], ◌∷◌, ◌++◌, map, length, get_or, sum, replicate, All, refl, ap, sym, ◌∙◌, subst, arith}
-use Rattle.std.specs.Prelude.{⊤, cond}
-use Rattle.std.specs.List.{AllByRecursion, flat_map, range_with_len}
+use Rattle.std.proofs.Common.{◌≡◌, inl, inr, ℕ, zero, suc, ◌+◌, ◌-◌, ◌<◌, ◌≤◌, List, [], ◌∷◌, ◌++◌, map, length, get_or, sum, replicate, All, refl, ap, sym, ◌∙◌, subst, arith}
+use Rattle.std.specs.List.{AllByRecursion, flat_map}
 use Rattle.std.specs.List.Sorted.{IsStrictlyIncreasing}
-use Rattle.std.proofs.lemmas.List.{length-map, length-replicate, get_or_default}
+use Rattle.std.proofs.lemmas.List.{length-map, get_or_default}
 use native.Mathlib.Decide.{dec_lt}
 use Prim.{yes, no}
 use Rattle.face_poset.specs.declared.cells.Cell.{Cell}
 use Rattle.face_poset.specs.Words.{upto}
-use Rattle.face_poset.specs.Poset.{count, cell_count, cells_with, facets_of}
+use Rattle.face_poset.specs.Poset.{count, cell_count, cells_with}
 use Rattle.face_poset.specs.Below.{cell_at, closure, facets_of_all}
-use Rattle.face_poset.specs.Cofaces.{IsRising, coface_lists}
-use Rattle.order_complex.specs.Chains.{cells_before, id_of, faces_of, all_cells, all_faces, chains_from, chains_of, chain_count}
+use Rattle.face_poset.specs.Cofaces.{IsRising}
+use Rattle.order_complex.specs.Chains.{cells_before, id_of, faces_of, all_faces, chains_of, chain_count}
 use Rattle.order_complex.specs.Listing.{extensions, next_counts, counted_chains, uppers_of}
-use Rattle.order_complex.proofs.Members.{Member, map-member, append-member}
-use Rattle.order_complex.proofs.Ordered.{Rises, all-of, all-at, rises-range, rises-filter}
-use Rattle.order_complex.proofs.FaceIds.{faces_at, face-below, closure-of, facets_of_all-range, length-all_faces, cell_with, faces_at-cell, at_id, IsOf}
-use Rattle.order_complex.proofs.Chained.{IsAbove, IsChain, Follows, above-member, chains_of-member}
+use Rattle.order_complex.proofs.Members.{Member, map-member}
+use Rattle.order_complex.proofs.Ordered.{Rises, all-of, rises-range, rises-filter}
+use Rattle.order_complex.proofs.FaceIds.{faces_at, face-below, closure-of, facets_of_all-range, length-all_faces, cell_with, faces_at-cell}
+use Rattle.order_complex.proofs.Chained.{Follows, above-member, chains_of-member}
 use Rattle.order_complex.proofs.Extended.{chains_of-zero, chains_of-next, length-uppers_of, counts_of, counts_of-next, sum-counts_of}
-use Rattle.order_complex.proofs.Graded.{member-at, all-index}
+use Rattle.order_complex.proofs.Graded.{all-index}
 
 rises-index : (xs : List ℕ) → Rises xs → IsStrictlyIncreasing xs
 rises-index [] h k l = absurd (omega arith)

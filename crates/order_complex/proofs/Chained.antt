@@ -1,6 +1,5 @@
 -- Which sequences are chains, and that a chain with one entry left out is one.
-use Rattle.std.proofs.Common.{◌≡◌, ◌⊎◌, inl, inr, ℕ, zero, suc, ◌+◌, ◌-◌, ◌<◌, ◌≤◌, List, [], ◌∷◌, map, filter, length, get_or, refl, ap, sym, ◌∙◌, subst, arith}
-use Rattle.std.specs.Prelude.{⊤}
+use Rattle.std.proofs.Common.{◌≡◌, inl, inr, ℕ, zero, suc, ◌-◌, ◌≤◌, List, [], ◌∷◌, length, get_or, refl, ap, sym, ◌∙◌, subst, arith}
 use Rattle.std.specs.List.{flat_map}
 use Rattle.face_poset.specs.Words.{upto, holds}
 use Rattle.face_poset.specs.Poset.{cell_count}
@@ -8,7 +7,7 @@ use Rattle.order_complex.specs.Chains.{all_faces, above, chains_from, chains_of}
 use Rattle.order_complex.specs.Cochains.{leave_out}
 pub use Rattle.order_complex.specs.Sequences.{IsAbove, Follows, IsChain}
 use Rattle.order_complex.proofs.Members.{Member, member-map, map-member, member-flat_map, flat_map-member, member-filter, filter-member, holds-member, member-holds, member-upto, upto-member}
-use Rattle.order_complex.proofs.FaceIds.{faces_at, face_of_face, face-below, length-all_faces}
+use Rattle.order_complex.proofs.FaceIds.{face_of_face, length-all_faces}
 
 module _ (space : List (List (List ℕ))) where
   abbrev faces : List (List ℕ)

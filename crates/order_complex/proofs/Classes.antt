@@ -1,9 +1,9 @@
 -- Two bases of cocycles modulo coboundaries have the same length.
-use Rattle.std.proofs.Common.{◌≡◌, ◌⊎◌, inl, inr, ℕ, zero, suc, ◌+◌, ◌<◌, ◌≤◌, List, [], ◌∷◌, map, length, replicate, refl, ap, sym, ◌∙◌, subst, arith}
+use Rattle.std.proofs.Common.{◌≡◌, ℕ, zero, suc, ◌<◌, ◌≤◌, List, [], ◌∷◌, length, replicate, refl, ap, sym, ◌∙◌, subst, arith}
 use Rattle.std.specs.List.{AllByRecursion}
 use Rattle.small_field.specs.Field.{Ops, IsField}
-use Rattle.small_field.proofs.Laws.{add_swap, zero_below}
-use Rattle.linear_algebra.specs.Vectors.{plus_scaled, combination, column, IsVector, IsMatrix, IsDependent, IsNonzero, dot}
+use Rattle.small_field.proofs.Laws.{add_swap}
+use Rattle.linear_algebra.specs.Vectors.{plus_scaled, combination, IsVector, IsMatrix}
 use Rattle.linear_algebra.proofs.Span.{plus_scaled-vector, one_times, combination-vector, combination-plus, combination-zeros, zeros_plus, zeros-elements}
 use Rattle.linear_algebra.proofs.Solve.{more_are_dependent}
 use Rattle.linear_algebra.proofs.Decide.{zeros_of_dots}
@@ -13,7 +13,7 @@ use Rattle.std.proofs.lemmas.List.{length-replicate}
 use native.Mathlib.Decide.{dec_lt}
 use Prim.{yes, no}
 use Rattle.order_complex.specs.Chains.{chains_of}
-use Rattle.order_complex.specs.Cochains.{coboundary_on, coboundary_at, coboundary, zeros, IsCochain}
+use Rattle.order_complex.specs.Cochains.{coboundary_on, coboundary, zeros}
 use Rattle.order_complex.specs.Homology.{IsCocycle, IsCoboundary, IsClass, IsBasis}
 use Rattle.order_complex.proofs.Rows.{coboundary_at_is_linear}
 use Rattle.order_complex.proofs.Alternating.{alternating_below}

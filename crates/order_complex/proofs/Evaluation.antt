@@ -1,17 +1,15 @@
 -- The coboundary is the combination of its rows, and evaluation carries it to the boundary.
-use Rattle.std.proofs.Common.{◌≡◌, ◌≢◌, ◌⊎◌, inl, inr, ℕ, zero, suc, ◌<◌, List, [], ◌∷◌, Bool, true, false, cond, map, length, get_or, refl, ap, sym, ◌∙◌, subst, arith}
+use Rattle.std.proofs.Common.{◌≡◌, ◌≢◌, ℕ, ◌<◌, List, [], ◌∷◌, Bool, true, false, cond, map, length, get_or, refl, ap, sym, ◌∙◌, arith}
 use Rattle.std.specs.Str.{bytes_eq}
 use Rattle.std.proofs.lemmas.List.{length-map, get_or-map, get_or_default, same_lists}
 use Rattle.small_field.specs.Field.{Ops, IsField}
 use Rattle.small_field.proofs.Laws.{zero_below}
 use Rattle.linear_algebra.specs.Vectors.{dot, column, combination, IsVector, IsMatrix, AreElements}
-use Rattle.linear_algebra.specs.Vectors.{boundary as row_products}
 use Rattle.linear_algebra.proofs.Span.{combination-vector}
 use Rattle.linear_algebra.proofs.Decide.{entry_combination}
 use Rattle.linear_algebra.proofs.Betti.{dot_unit}
 use Rattle.linear_algebra.proofs.Linear.{functional_of_combination}
 use Rattle.linear_algebra.proofs.Adjoint.{adjoint}
-use Rattle.order_complex.specs.Chains.{chains_of}
 use Rattle.order_complex.specs.Cochains.{mark, coboundary_at, coboundary_on, boundary_on, evaluation}
 use Rattle.order_complex.specs.Order.{IsOrdered}
 use Rattle.order_complex.specs.Ranks.{rows_on}

@@ -1,20 +1,19 @@
 -- The chains of a degree, each with one cell more at its end, are the chains of the next degree.
-use Rattle.std.proofs.Common.{◌≡◌, ◌≢◌, ◌⊎◌, inl, inr, ℕ, zero, suc, ◌+◌, ◌-◌, ◌<◌, ◌≤◌, List, [], ◌∷◌, ◌++◌, map, length, get_or, sum, sum_by, All, refl, ap, sym, ◌∙◌, subst, arith}
+use Rattle.std.proofs.Common.{◌≡◌, inl, inr, ℕ, zero, suc, ◌-◌, ◌≤◌, List, [], ◌∷◌, ◌++◌, map, length, get_or, sum, sum_by, refl, ap, sym, ◌∙◌, arith}
 use Rattle.std.specs.List.{flat_map}
-use Rattle.std.proofs.lemmas.List.{append-nil, length-map, map-append, append_assoc}
+use Rattle.std.proofs.lemmas.List.{append-nil, length-map, map-append}
 use Rattle.std.proofs.lemmas.List.Concat.{flat_map-cons, flat_map_single, length-flat_map}
 use Rattle.std.proofs.lemmas.Grind.{flat_map-append}
 use Rattle.std.proofs.lemmas.List.FromFn.{get_or-map-range_with_len}
 use Rattle.face_poset.specs.Words.{upto}
 use Rattle.face_poset.specs.Poset.{cell_count, cells_with}
-use Rattle.face_poset.specs.Cofaces.{coface_lists}
 use Rattle.face_poset.proofs.Members.{length-upto}
 use Rattle.order_complex.specs.Chains.{all_faces, above, chains_from, chains_of}
 use Rattle.order_complex.specs.Listing.{extensions, next_counts, uppers_of}
 use Rattle.std.proofs.lemmas.List.Sums.{sum_by-cons, sum-map}
 use Rattle.order_complex.proofs.Members.{Member, upto-member, flat_map-member}
 use Rattle.order_complex.proofs.FaceIds.{length-all_faces}
-use Rattle.order_complex.proofs.Chained.{IsAbove, IsChain, Follows, above-member, chains_from-member, chains_of-member}
+use Rattle.order_complex.proofs.Chained.{IsAbove, above-member, chains_from-member}
 
 flat_map-flat_map : {A B C : Type 0} (f : B → List C) (g : A → List B) (xs : List A) → flat_map f (flat_map g xs) ≡ flat_map (λ x. flat_map f (g x)) xs
 flat_map-flat_map f g [] = refl

@@ -1,7 +1,6 @@
 -- The faces of a face of a cell are faces of the cell, by ids.
-use Rattle.std.proofs.Common.{lit≤, ◌≡◌, ◌⊎◌, inl, inr, ℕ, zero, suc, ◌+◌, ◌-◌, ◌<◌, ◌≤◌, List, [], ◌∷◌, ◌++◌, Bool, true, false, cond, map, filter, take, length, get_or, refl, ap, sym, ◌∙◌, subst, arith}
-use Rattle.std.specs.List.{flat_map, list_any, range_with_len}
-use Rattle.std.proofs.lemmas.List.Concat.{flat_map-cons}
+use Rattle.std.proofs.Common.{lit≤, ◌≡◌, inl, inr, ℕ, zero, suc, ◌+◌, ◌-◌, ◌<◌, ◌≤◌, List, [], ◌∷◌, ◌++◌, Bool, map, take, length, get_or, refl, ap, sym, ◌∙◌, subst, arith}
+use Rattle.std.specs.List.{list_any}
 use Rattle.std.proofs.lemmas.List.{get_or-map, get_or-append_right, append-nil, length-append, length-map, append_assoc, map-append}
 use Rattle.std.proofs.Math.ListN.{get_or-append}
 use Rattle.std.proofs.lemmas.List.FromFn.{length-range_with_len, get_or-map-range_with_len}
@@ -12,7 +11,7 @@ use Rattle.face_poset.specs.Words.{upto, holds}
 use Rattle.face_poset.specs.Poset.{count, cell_count, facets_of}
 use Rattle.face_poset.specs.Below.{cell_at, closed_cell, closure, facets_of_all}
 use Rattle.order_complex.specs.Chains.{cells_before, id_of, all_cells, faces_of, all_faces}
-use Rattle.order_complex.proofs.Members.{Member, Within, member-left, member-right, append-member, member-map, map-member, member-filter, filter-member, list_any-member, member-list_any, holds-member, member-holds, member-upto, upto-member}
+use Rattle.order_complex.proofs.Members.{Member, Within, member-left, member-right, append-member, member-map, map-member, member-filter, filter-member, list_any-member, member-list_any, upto-member}
 
 -- ---- closures
 

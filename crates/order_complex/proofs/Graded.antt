@@ -1,21 +1,21 @@
 -- The order complex is a graded set.
-use Rattle.std.proofs.Common.{◌≡◌, ◌≢◌, ◌⊎◌, inl, inr, ℕ, zero, suc, ◌+◌, ◌-◌, ◌<◌, ◌≤◌, List, [], ◌∷◌, ◌++◌, map, reverse, length, get_or, Some, None, All, refl, ap, sym, ◌∙◌, subst, arith}
+use Rattle.std.proofs.Common.{◌≡◌, inl, inr, ℕ, zero, suc, ◌+◌, ◌-◌, ◌<◌, ◌≤◌, List, [], ◌∷◌, map, reverse, length, get_or, All, refl, ap, sym, ◌∙◌, subst, arith}
 use Rattle.std.specs.Prelude.{⊤}
 use Rattle.std.specs.Option.{unwrap_or}
 use Rattle.std.specs.List.{AllByRecursion}
 use Rattle.std.specs.List.Sorted.{IsStrictlyIncreasing}
-use Rattle.std.proofs.lemmas.List.{length-map, length-reverse, get_or-reverse, get_or-map, get_or_default}
+use Rattle.std.proofs.lemmas.List.{length-map, length-reverse, get_or-reverse}
 use native.Mathlib.Decide.{dec_lt}
 use Prim.{yes, no}
-use Rattle.face_poset.specs.Poset.{layer, count, cell_count, IsCell, IsSpace}
+use Rattle.face_poset.specs.Poset.{layer, count, IsCell, IsSpace}
 use Rattle.face_poset.specs.Cofaces.{IsRising}
 use Rattle.order_complex.specs.Order.{Before, IsOrdered}
 use Rattle.order_complex.specs.Chains.{chains_of, chain_count}
 use Rattle.order_complex.specs.Cochains.{leave_out}
-use Rattle.order_complex.specs.Complex.{number_in, number_or_zero, facet_numbers, facet_lists, complex_of}
-use Rattle.order_complex.proofs.Members.{Member, member-map, map-member}
+use Rattle.order_complex.specs.Complex.{number_or_zero, facet_numbers, facet_lists, complex_of}
+use Rattle.order_complex.proofs.Members.{Member, map-member}
 use Rattle.order_complex.proofs.FaceIds.{face-below}
-use Rattle.order_complex.proofs.Chained.{IsAbove, IsChain, Follows, chains_of-member, leave_out-member}
+use Rattle.order_complex.proofs.Chained.{IsAbove, Follows, chains_of-member, leave_out-member}
 use Rattle.order_complex.proofs.Ordered.{ordered-at, ordered-chains_of, before-self}
 use Rattle.order_complex.proofs.Compare.{before-trans}
 use Rattle.order_complex.proofs.Numbers.{number-at}

@@ -18,3 +18,6 @@ pub mod Cancel
 pub mod ChainBounds
 pub mod Held
 pub mod ValueLemmas
+pub mod Cofaces
+pub mod LineLemmas
+mod Examples

@@ -1,15 +1,13 @@
 -- The numbers of chains in a list in lexicographic order.
-use Rattle.std.proofs.Common.{◌≡◌, ◌≢◌, ◌⊎◌, inl, inr, ℕ, zero, suc, ◌+◌, ◌<◌, ◌≤◌, List, [], ◌∷◌, ◌++◌, Bool, true, false, cond, map, take, drop, length, get_or, Some, None, refl, ap, sym, ◌∙◌, subst, arith}
-use Rattle.std.specs.Option.{unwrap_or}
+use Rattle.std.proofs.Common.{◌≡◌, ◌≢◌, inl, inr, ℕ, zero, suc, ◌+◌, ◌<◌, List, [], ◌∷◌, ◌++◌, Bool, true, false, cond, map, take, drop, length, get_or, Some, None, refl, ap, sym, ◌∙◌, subst, arith}
 use Rattle.std.specs.Prelude.{option_map}
-use Rattle.std.specs.declared.option.Option.{Option}
-use Rattle.std.specs.List.{AllByRecursion, range_with_len}
+use Rattle.std.specs.List.{range_with_len}
 use Rattle.std.specs.Str.{bytes_eq}
 use Rattle.order_complex.specs.Order.{Before, IsOrdered}
 use Rattle.order_complex.specs.Cochains.{leave_out}
-use Rattle.order_complex.specs.Complex.{number_in, number_or_zero}
+use Rattle.order_complex.specs.Complex.{number_in}
 use Rattle.order_complex.proofs.Members.{Member}
-use Rattle.order_complex.proofs.Ordered.{ordered-differ, all-at, before-self}
+use Rattle.order_complex.proofs.Ordered.{all-at, before-self}
 use Rattle.order_complex.proofs.Twice.{bytes_eq-refl, bytes_eq-true}
 
 -- the first of them

@@ -1,5 +1,5 @@
 -- The chains of a degree stand in lexicographic order, each once.
-use Rattle.std.proofs.Common.{◌≡◌, ◌≢◌, ◌⊎◌, inl, inr, ℕ, zero, suc, ◌+◌, ◌-◌, ◌<◌, ◌≤◌, List, [], ◌∷◌, ◌++◌, Bool, true, false, cond, map, filter, length, get_or, refl, ap, sym, ◌∙◌, subst, arith}
+use Rattle.std.proofs.Common.{◌≡◌, ◌≢◌, inl, inr, ℕ, zero, suc, ◌+◌, ◌-◌, ◌<◌, List, [], ◌∷◌, ◌++◌, Bool, true, false, cond, map, filter, length, get_or, refl, sym, subst, arith}
 use Rattle.std.specs.Prelude.{⊤}
 use Rattle.std.specs.List.{AllByRecursion, flat_map, range_with_len}
 use Rattle.std.proofs.lemmas.List.Concat.{flat_map-cons}
@@ -8,7 +8,7 @@ use Prim.{yes, no}
 use Rattle.face_poset.specs.Words.{upto, holds}
 use Rattle.order_complex.specs.Chains.{all_faces, above, chains_from, chains_of}
 use Rattle.order_complex.specs.Order.{Before, IsOrdered}
-use Rattle.order_complex.proofs.Members.{Member, member-map, map-member, flat_map-member}
+use Rattle.order_complex.proofs.Members.{Member, map-member, flat_map-member}
 
 abbrev pub Rises : List ℕ → Type 0
 Rises [] = ⊤

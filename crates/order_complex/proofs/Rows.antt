@@ -1,13 +1,11 @@
 -- The coboundary on lists of chains as a linear map.
 use Rattle.std.proofs.Common.{◌≡◌, ℕ, zero, suc, ◌<◌, List, [], ◌∷◌, Bool, true, false, cond, map, length, replicate, refl, ap, sym, ◌∙◌, arith}
-use Rattle.std.specs.List.{AllByRecursion}
 use Rattle.std.specs.Str.{bytes_eq}
 use Rattle.small_field.specs.Field.{Ops, IsField}
-use Rattle.small_field.proofs.Laws.{zero_below, add_zero, add_swap, neg_add, neg_zero, mul_zero, mul_neg}
-use Rattle.linear_algebra.specs.Vectors.{plus_scaled, AreElements, IsVector}
+use Rattle.small_field.proofs.Laws.{zero_below, add_swap, neg_add, neg_zero, mul_zero, mul_neg}
+use Rattle.linear_algebra.specs.Vectors.{plus_scaled, AreElements}
 use Rattle.linear_algebra.specs.Linear.{IsLinear}
 use Rattle.order_complex.specs.Cochains.{alternating, leave_out, value, coboundary_at}
-use Rattle.order_complex.proofs.Alternating.{alternating_below}
 
 module _ (F : Ops) (L : IsField F) where
   cond_plus : (b : Bool) (s x y p q r : ℕ) → r ≡ F.add p (F.mul s q) → cond b (F.add x (F.mul s y)) r ≡ F.add (cond b x p) (F.mul s (cond b y q))

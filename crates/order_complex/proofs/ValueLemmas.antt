@@ -1,22 +1,21 @@
 -- Values of cochains by the numbers of chains.
-use Rattle.std.proofs.Common.{◌≡◌, ◌≢◌, ◌⊎◌, inl, inr, ℕ, zero, suc, ◌+◌, ◌-◌, ◌<◌, ◌≤◌, List, [], ◌∷◌, ◌++◌, Bool, true, false, cond, map, reverse, take, length, get_or, Some, None, refl, ap, sym, ◌∙◌, subst, arith}
-use Rattle.std.specs.Option.{unwrap_or}
+use Rattle.std.proofs.Common.{◌≡◌, inl, inr, ℕ, suc, ◌+◌, ◌-◌, ◌<◌, ◌≤◌, List, [], ◌∷◌, ◌++◌, Bool, true, false, cond, map, reverse, take, length, get_or, Some, None, refl, ap, sym, ◌∙◌, subst, arith}
 use Rattle.std.specs.Prelude.{option_map}
 use Rattle.std.specs.declared.option.Option.{Option}
 use Rattle.std.specs.Str.{bytes_eq}
 use Rattle.std.proofs.lemmas.List.{take_more, reverse-append}
 use Rattle.std.proofs.lemmas.Bool.{le-leb}
-use Rattle.small_field.specs.Field.{Ops, IsField}
-use Rattle.face_poset.specs.Poset.{layer, count, facets_of}
+use Rattle.small_field.specs.Field.{Ops}
+use Rattle.face_poset.specs.Poset.{facets_of}
 use Rattle.order_complex.specs.Order.{IsOrdered}
 use Rattle.order_complex.specs.Chains.{chains_of}
 use Rattle.order_complex.specs.Cochains.{alternating, leave_out, value, coboundary_at}
-use Rattle.order_complex.specs.Complex.{number_in, position_of, number_or_zero, facet_numbers, facet_lists, complex_of}
+use Rattle.order_complex.specs.Complex.{number_in, position_of, number_or_zero, complex_of}
 use Rattle.order_complex.proofs.Members.{Member}
 use Rattle.order_complex.proofs.Chained.{chains_of-member, leave_out-member}
 use Rattle.order_complex.proofs.Ordered.{ordered-chains_of}
 use Rattle.order_complex.proofs.Graded.{member-at, placed, facets-are}
-use Rattle.order_complex.proofs.Cancel.{reverse-cons, reverse-reverse, complex-facets}
+use Rattle.order_complex.proofs.Cancel.{reverse-reverse, complex-facets}
 use Rattle.order_complex.proofs.Numbers.{number-at}
 
 pub chain-long : (space : List (List (List ℕ))) (degree place : ℕ) → place < length (chains_of space degree) → length (get_or (chains_of space degree) place []) ≡ degree + 1

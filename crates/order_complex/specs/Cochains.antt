@@ -1,6 +1,6 @@
 -- Cochains on lists of chains, their coboundaries, and boundaries of chains with coefficients.
 -- `F` is the arithmetic of a field. A cochain is the list of the elements that it gives to the chains of its degree, in their order.
-use Rattle.std.specs.Prelude.{◌≡◌, ℕ, zero, suc, List, [], ◌∷◌, map, length, cond, replicate}
+use Rattle.std.specs.Prelude.{ℕ, suc, List, [], ◌∷◌, map, length, cond, replicate}
 use Rattle.std.specs.Str.{bytes_eq}
 use Rattle.small_field.specs.Field.{Ops}
 use Rattle.linear_algebra.specs.Vectors.{IsVector, dot}

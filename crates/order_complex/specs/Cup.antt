@@ -1,5 +1,5 @@
 -- The cup product of Alexander and Whitney on the order complex.
-use Rattle.std.specs.Prelude.{◌≡◌, ℕ, suc, ◌+◌, List, map, take, drop}
+use Rattle.std.specs.Prelude.{ℕ, suc, ◌+◌, List, map, take, drop}
 use Rattle.small_field.specs.Field.{Ops}
 use Rattle.order_complex.specs.Chains.{chains_of}
 use Rattle.order_complex.specs.Cochains.{value}

@@ -9,3 +9,5 @@ pub mod Values
 pub mod Sequences
 pub mod Ranks
 pub mod Laws
+pub mod Lines
+pub mod LineLaws

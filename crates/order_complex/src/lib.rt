@@ -18,5 +18,6 @@ pub use cochain::Cochain;
 pub use fault::ChainFault;
 pub use laws::{
     betti_by_ranks, betti_is_one_number, chains_are_ordered, chains_are_sequences,
-    coboundaries_are_closed, coboundary_is_adjoint,
+    class_lines_are_cocycles, coboundaries_are_closed, coboundary_is_adjoint, entries_are_cochains,
+    product_lines_are_products,
 };

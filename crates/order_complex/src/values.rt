@@ -1,12 +1,14 @@
 // Values of coboundaries, boundaries and cup products.
-ghost use Rattle.std.specs.Prelude.{◌≡◌, ◌+◌, ◌-◌, ◌≤◌, [], length, slice_index_or};
+ghost use Rattle.std.specs.Prelude.{◌≡◌, ◌+◌, ◌-◌, ◌≤◌, [], Contains, cond, length, slice_index, slice_index_or};
+ghost use Rattle.face_poset.specs.Poset.{facets_of};
 ghost use Rattle.order_complex.specs.Chains.{chains_of};
-ghost use Rattle.order_complex.specs.Cochains.{coboundary_at as coboundary_value, value as chain_value};
+ghost use Rattle.order_complex.specs.Cochains.{boundary, coboundary_at as coboundary_value, value as chain_value};
+ghost use Rattle.order_complex.specs.Complex.{complex_of, negative_in};
 ghost use Rattle.order_complex.specs.Cup.{cup_at as cup_value};
 
 use crate::chains::Chains;
 use crate::cochain::Cochain;
-use face_poset::Graded;
+use face_poset::{Graded, Signed};
 use small_field::Field;
 
 impl<'a> Chains<'a> {
@@ -23,6 +25,41 @@ impl<'a> Chains<'a> {
             value = x.get(*facet).add(value.neg());
         }
         value
+    }
+
+    /// The coefficient of a coface of a chain, with the sign of the chain in it.
+    fn signed_at<F: Field>(&self, degree: u8, c: &Cochain<F>, coface: u32, chain: u32) -> F
+        requires degree { degree ≤ 3 }
+        requires coefficients { length c.now ≡ length (chains_of self.now degree) }
+        requires first { 1 ≤ coface }
+        requires last { coface ≤ length (chains_of self.now degree) }
+        requires facet { Contains (facets_of (complex_of self.now) degree coface) chain }
+        ensures { let x = slice_index c.now (coface - 1) in F.number_of result ≡ cond (negative_in self.now degree coface chain) (F.ops.neg x) x }
+    {
+        let coefficient = c.get(coface);
+        if self.sign(degree, coface, chain) < 0 {
+            coefficient.neg()
+        } else {
+            coefficient
+        }
+    }
+
+    /// The coefficient, at a chain of one degree less, of the boundary of a chain with coefficients of a degree. Chains are
+    /// numbered from 1.
+    pub fn boundary_at<F: Field>(&self, degree: u8, c: &Cochain<F>, chain: u32) -> F
+        requires low { 1 ≤ degree }
+        requires high { degree ≤ 3 }
+        requires coefficients { length c.now ≡ length (chains_of self.now degree) }
+        requires first { 1 ≤ chain }
+        requires last { chain ≤ length (chains_of self.now (degree - 1)) }
+        ensures { F.number_of result ≡ slice_index (boundary F.ops self.now (degree - 1) c.now) (chain - 1) }
+    {
+        let _coefficients = c.len();
+        let mut total = F::zero();
+        for coface in self.cofaces(degree - 1, chain) {
+            total = total.add(self.signed_at(degree, c, *coface, chain));
+        }
+        total
     }
 
     /// The value of a cochain of a degree on the chain with these ids, or 0 where they are no chain of the degree.

@@ -1,10 +1,8 @@
-use Rattle.std.proofs.Common.{◌≡◌, ◌≤◌, ◌<◌, ◌-◌, ℕ, List, length, map, take, get_or, ap, subst, sym, ◌∙◌, arith}
+use Rattle.std.proofs.Common.{◌≡◌, ◌≤◌, ◌<◌, ℕ, List, length, get_or, ap, subst, sym, ◌∙◌, arith}
 use Rattle.face_poset.specs.declared.cells.Cell.{Cell}
 use Rattle.face_poset.specs.Below.{closed_cell}
 use Rattle.face_poset.specs.Poset.{count}
-use Rattle.order_complex.specs.Chains.{id_of}
-use Rattle.order_complex.proofs.FaceIds.{closed_cell-at, closed_cell-faces, IsOf}
-use Rattle.order_complex.proofs.Steps.{map_more}
+use Rattle.order_complex.proofs.FaceIds.{closed_cell-at}
 use Rattle.order_complex.proofs.faces.face_ids.Goals as goal
 
 -- a cell of the list is a cell of the space

@@ -1,4 +1,4 @@
-use Rattle.std.proofs.Common.{◌≡◌, ℕ, List, ◌+◌, ◌++◌, ◌∷◌, [], map, ap, sym, ◌∙◌}
+use Rattle.std.proofs.Common.{ℕ, List, ◌+◌, ◌++◌, ◌∷◌, [], map, ap, sym, ◌∙◌}
 use Rattle.std.proofs.lemmas.List.{map-append, append_assoc}
 use Rattle.face_poset.specs.Words.{upto}
 use Rattle.face_poset.proofs.Members.{upto_more}

@@ -1,4 +1,4 @@
-use Rattle.std.proofs.Common.{◌≡◌, ap, sym, ◌∙◌, Some, None, refl}
+use Rattle.std.proofs.Common.{ap, sym, refl}
 use Rattle.std.specs.Option.{unwrap_or}
 use Rattle.order_complex.proofs.Numbers.{number-at, number-nowhere}
 use Rattle.order_complex.proofs.facets.chain_number.Goals as goal

@@ -1,7 +1,6 @@
-use Rattle.std.proofs.Common.{◌≡◌, ◌+◌, ◌≤◌, ◌++◌, ◌∷◌, [], ℕ, List, length, map, reverse, refl, ap, sym, ◌∙◌, arith, rules}
+use Rattle.std.proofs.Common.{◌≡◌, ◌+◌, ◌++◌, ◌∷◌, [], ℕ, List, length, map, reverse, refl, ap, sym, ◌∙◌, arith, rules}
 use Rattle.std.specs.List.{range_with_len}
 use Rattle.std.proofs.lemmas.List.FromFn.{map-range_with_len_more}
-use Rattle.order_complex.specs.Cochains.{leave_out}
 use Rattle.order_complex.specs.Complex.{number_or_zero, facet_numbers}
 use Rattle.order_complex.proofs.Numbers.{without, leave_out-places}
 use Rattle.order_complex.proofs.facets.number_facets.Goals as goal

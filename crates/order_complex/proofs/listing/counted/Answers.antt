@@ -1,4 +1,4 @@
-use Rattle.std.proofs.Common.{◌≡◌, ◌-◌, ◌++◌, ◌∷◌, [], ap, ◌∙◌, arith, get_or, sum_by}
+use Rattle.std.proofs.Common.{◌-◌, ◌++◌, ◌∷◌, [], ap, ◌∙◌, arith, get_or, sum_by}
 use Rattle.order_complex.proofs.Steps.{map_more}
 use Rattle.order_complex.proofs.listing.counted.Goals as goal
 

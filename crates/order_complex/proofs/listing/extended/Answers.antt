@@ -1,4 +1,4 @@
-use Rattle.std.proofs.Common.{◌≡◌, ◌-◌, ◌++◌, ◌∷◌, [], ℕ, List, length, map, ap, ◌∙◌, sym, arith, get_or}
+use Rattle.std.proofs.Common.{◌≡◌, ◌-◌, ◌++◌, ◌∷◌, [], ℕ, List, length, map, ap, ◌∙◌, arith, get_or}
 use Rattle.order_complex.specs.Listing.{extensions}
 use Rattle.order_complex.proofs.Steps.{flat_map_more}
 use Rattle.order_complex.proofs.listing.extended.Goals as goal

@@ -1,4 +1,4 @@
-use Rattle.std.proofs.Common.{◌≡◌, ◌+◌, ◌∷◌, ◌++◌, [], ap, sym, ◌∙◌, map}
+use Rattle.std.proofs.Common.{◌+◌, ◌∷◌, ◌++◌, [], ap, sym, ◌∙◌, map}
 use Rattle.std.proofs.lemmas.List.{map-append}
 use Rattle.face_poset.specs.Words.{upto}
 use Rattle.face_poset.proofs.Members.{upto_more}

@@ -1,4 +1,4 @@
-use Rattle.std.proofs.Common.{◌≡◌, ◌<◌, ◌≤◌, ◌-◌, ℕ, List, [], length, get_or}
+use Rattle.std.proofs.Common.{◌<◌, ◌≤◌, ◌-◌, ℕ, List, [], length, get_or}
 use Rattle.order_complex.specs.Order.{Before}
 use Rattle.order_complex.proofs.searching.find_chain.Given as goal
 

@@ -1,4 +1,4 @@
-use Rattle.std.proofs.Common.{◌≡◌, ◌≤◌, ◌-◌, List, ℕ, [], length, get_or, ap, sym, ◌∙◌, arith}
+use Rattle.std.proofs.Common.{◌-◌, List, ℕ, [], length, get_or, ap, ◌∙◌, arith}
 use Rattle.order_complex.proofs.Held.{held, chains-at}
 use Rattle.order_complex.proofs.ValueLemmas.{chain-long}
 use Rattle.order_complex.proofs.chains.Chains.chain.Goals as goal

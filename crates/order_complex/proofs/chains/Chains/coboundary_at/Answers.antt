@@ -1,9 +1,7 @@
-use Rattle.std.proofs.Common.{◌≡◌, ◌≤◌, ◌<◌, ◌-◌, ◌+◌, ℕ, List, map, reverse, take, length, get_or, ap, sym, ◌∙◌, subst, arith, rules}
+use Rattle.std.proofs.Common.{◌≤◌, ◌<◌, ◌-◌, ℕ, List, map, reverse, length, get_or, ap, sym, ◌∙◌, subst, arith}
 use Rattle.std.proofs.lemmas.List.{take_all}
-use Rattle.face_poset.specs.Poset.{facets_of}
 use Rattle.order_complex.specs.Chains.{chains_of}
 use Rattle.order_complex.specs.Cochains.{alternating}
-use Rattle.order_complex.specs.Complex.{complex_of}
 use Rattle.order_complex.proofs.Cancel.{complex-count}
 use Rattle.order_complex.proofs.ValueLemmas.{coboundary-facets, facet-range}
 use Rattle.order_complex.proofs.chains.Chains.coboundary_at.Goals as goal

@@ -1,4 +1,4 @@
-use Rattle.std.proofs.Common.{◌≡◌, ◌-◌, ℕ, map, reverse, take, get_or}
+use Rattle.std.proofs.Common.{◌≡◌, ◌-◌, map, reverse, take, get_or}
 use Rattle.order_complex.specs.Cochains.{alternating}
 use Rattle.order_complex.proofs.chains.Chains.coboundary_at.Given as goal
 

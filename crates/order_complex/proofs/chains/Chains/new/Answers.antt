@@ -1,4 +1,4 @@
-use Rattle.std.proofs.Common.{◌≡◌, ap, ◌∙◌, arith}
+use Rattle.std.proofs.Common.{ap, ◌∙◌, arith}
 use Rattle.order_complex.specs.Chains.{chain_count}
 use Rattle.order_complex.proofs.chains.Chains.new.Goals as goal
 

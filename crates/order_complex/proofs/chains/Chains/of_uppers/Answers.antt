@@ -1,8 +1,7 @@
-use Rattle.std.proofs.Common.{◌≡◌, ◌≤◌, List, ℕ, ap, sym, ◌∙◌, subst}
+use Rattle.std.proofs.Common.{ap, sym, ◌∙◌, subst}
 use Rattle.face_poset.specs.Poset.{IsSpace}
 use Rattle.face_poset.specs.Cofaces.{coface_layers}
-use Rattle.order_complex.specs.Chains.{chain_count}
-use Rattle.order_complex.specs.Complex.{complex_of, chain_layers}
+use Rattle.order_complex.specs.Complex.{chain_layers}
 use Rattle.order_complex.proofs.Graded.{complex-is_space}
 use Rattle.order_complex.proofs.Held.{layers-ordered, layers-few, facets-are}
 use Rattle.order_complex.proofs.chains.Chains.of_uppers.Goals as goal

@@ -1,4 +1,4 @@
-use Rattle.std.proofs.Common.{◌≡◌, ◌≢◌, ◌≤◌, ◌<◌, ◌-◌, ◌+◌, List, ℕ, [], Bool, true, false, ◌&&◌, length, get_or, Some, None, refl, ap, sym, ◌∙◌, subst, arith, rules, if◌then◌else◌}
+use Rattle.std.proofs.Common.{◌≡◌, ◌≤◌, ◌-◌, List, ℕ, length, refl, ap, sym, ◌∙◌, subst, rules}
 use Rattle.std.proofs.lemmas.Bool.{le-leb}
 use Rattle.order_complex.specs.Chains.{chains_of}
 use Rattle.order_complex.specs.Order.{IsOrdered}

@@ -1,4 +1,4 @@
-use Rattle.std.proofs.Common.{◌≡◌, ◌≤◌, ◌<◌, ◌-◌, List, ℕ, [], length, get_or, ap, sym, ◌∙◌, subst, arith}
+use Rattle.std.proofs.Common.{◌≡◌, ◌≤◌, ◌<◌, ◌-◌, List, ℕ, [], length, get_or, sym, subst, arith}
 use Rattle.face_poset.specs.Poset.{cell_count}
 use Rattle.order_complex.specs.Chains.{chains_of}
 use Rattle.order_complex.proofs.Extended.{length-uppers_of}

@@ -1,7 +1,6 @@
-use Rattle.std.proofs.Common.{◌≡◌, ◌≤◌, ◌-◌, ◌+◌, ℕ, List, length, Some, None, ap, sym, ◌∙◌, subst, arith}
+use Rattle.std.proofs.Common.{sym, ◌∙◌}
 use Rattle.order_complex.specs.Chains.{chains_of}
-use Rattle.order_complex.specs.Complex.{number_in, position_of}
-use Rattle.order_complex.proofs.ValueLemmas.{Found, value-found, value-nowhere, position-in}
+use Rattle.order_complex.proofs.ValueLemmas.{value-found, value-nowhere, position-in}
 use Rattle.order_complex.proofs.chains.Chains.value_at.Goals as goal
 
 pub get-requires-clause-first : goal.get-requires-clause-first

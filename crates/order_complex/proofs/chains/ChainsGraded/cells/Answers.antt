@@ -1,4 +1,4 @@
-use Rattle.std.proofs.Common.{◌≡◌, ◌≤◌, ◌-◌, List, ℕ, [], length, get_or, ap, sym, ◌∙◌, arith}
+use Rattle.std.proofs.Common.{List, ℕ, length, ap, ◌∙◌}
 use Rattle.order_complex.proofs.Held.{held, facets-at, valid}
 use Rattle.order_complex.proofs.chains.ChainsGraded.cells.Goals as goal
 

@@ -1,4 +1,4 @@
-use Rattle.std.proofs.Common.{◌≡◌, ◌≤◌, ◌-◌, List, ℕ, [], length, get_or, ap, sym, ◌∙◌, arith}
+use Rattle.std.proofs.Common.{◌∙◌, arith}
 use Rattle.order_complex.proofs.Held.{held, coface-at, valid}
 use Rattle.order_complex.proofs.chains.ChainsGraded.cofaces.Goals as goal
 

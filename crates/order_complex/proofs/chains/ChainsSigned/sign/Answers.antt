@@ -1,6 +1,6 @@
-use Rattle.std.proofs.Common.{◌≡◌, ◌≤◌, List, ℕ, Bool, true, false, reverse, ap, sym, ◌∙◌}
+use Rattle.std.proofs.Common.{List, ℕ, reverse, ap, sym, ◌∙◌}
 use Rattle.face_poset.specs.Signs.{sign_of}
-use Rattle.order_complex.specs.Complex.{stands_odd, negative_in}
+use Rattle.order_complex.specs.Complex.{stands_odd}
 use Rattle.order_complex.proofs.Cancel.{odd-at, signs_cancel}
 use Rattle.order_complex.proofs.chains.ChainsSigned.sign.Goals as goal
 

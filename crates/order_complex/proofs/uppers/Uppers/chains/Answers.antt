@@ -1,8 +1,8 @@
-use Rattle.std.proofs.Common.{◌≡◌, ◌≤◌, List, ℕ, ◌∷◌, [], length, refl, ap, ◌∙◌, arith}
+use Rattle.std.proofs.Common.{◌≡◌, List, ℕ, ◌∷◌, [], length, refl, ap, ◌∙◌, arith}
 use Rattle.order_complex.specs.Chains.{chains_of}
 use Rattle.order_complex.specs.Complex.{chain_layers}
 use Rattle.order_complex.proofs.Extended.{length-uppers_of}
-use Rattle.order_complex.proofs.ChainBounds.{walks, Walks, points-are, next-are}
+use Rattle.order_complex.proofs.ChainBounds.{walks, points-are, next-are}
 use Rattle.order_complex.proofs.uppers.Uppers.chains.Goals as goal
 
 pub single_cells-requires : goal.single_cells-requires

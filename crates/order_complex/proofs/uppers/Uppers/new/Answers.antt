@@ -1,4 +1,4 @@
-use Rattle.std.proofs.Common.{◌≡◌, ◌≤◌, List, ℕ, length, ap, arith}
+use Rattle.std.proofs.Common.{List, ℕ, length, ap, arith}
 use Rattle.order_complex.proofs.FaceIds.{length-all_faces}
 use Rattle.order_complex.proofs.ChainBounds.{faces-rising}
 use Rattle.order_complex.proofs.uppers.Uppers.new.Goals as goal
