@@ -1,5 +1,5 @@
 -- The ranks of two coboundaries that follow one another, and what they leave.
-use Rattle.std.proofs.Common.{◌≡◌, ℕ, zero, suc, ◌+◌, ◌≤◌, List, [], ◌∷◌, length, refl, ap, sym, ◌∙◌, subst, arith}
+use Rattle.std.proofs.Common.{◌≡◌, ℕ, zero, suc, ◌+◌, ◌≤◌, List, [], length, refl, sym, ◌∙◌, subst, arith}
 use Rattle.small_field.specs.Field.{Ops, IsField}
 use Rattle.linear_algebra.specs.Vectors.{IsMatrix}
 use Rattle.linear_algebra.specs.Echelon.{IsReducedTo}

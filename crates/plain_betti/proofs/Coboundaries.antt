@@ -1,5 +1,5 @@
 -- The rows of a coboundary, one after the other.
-use Rattle.std.proofs.Common.{◌≡◌, ℕ, ◌+◌, ◌<◌, ◌≤◌, List, [], map, length, replicate, set, get_or, refl, ap, sym, ◌∙◌, arith}
+use Rattle.std.proofs.Common.{◌≡◌, ℕ, ◌+◌, ◌<◌, ◌≤◌, List, [], length, replicate, set, get_or, ap, ◌∙◌, arith}
 use Rattle.small_field.specs.Field.{Ops}
 use Rattle.order_complex.specs.Order.{IsOrdered}
 use Rattle.order_complex.specs.Cochains.{mark, coboundary_on}

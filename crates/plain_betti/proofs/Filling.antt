@@ -1,5 +1,5 @@
 -- A list that is filled from its front.
-use Rattle.std.proofs.Common.{◌≡◌, ℕ, zero, suc, ◌+◌, ◌<◌, ◌≤◌, List, [], ◌∷◌, ◌++◌, map, take, drop, length, set, get_or, refl, ap, sym, ◌∙◌, subst, arith}
+use Rattle.std.proofs.Common.{◌≡◌, ℕ, zero, suc, ◌+◌, ◌<◌, ◌≤◌, List, [], ◌∷◌, ◌++◌, map, take, drop, length, set, get_or, refl, ap, ◌∙◌, arith}
 use Rattle.small_field.specs.Field.{Ops}
 use Rattle.linear_algebra.specs.Vectors.{IsMatrix}
 use Rattle.std.proofs.lemmas.List.{append-nil, take_all, drop_all, get_or-set_same, set-set}

@@ -1,12 +1,12 @@
 -- A space has four layers, so no chain has five cells.
-use Rattle.std.proofs.Common.{◌≡◌, ℕ, zero, suc, ◌+◌, ◌<◌, ◌≤◌, List, [], ◌∷◌, inl, map, length, refl, ap, sym, ◌∙◌, subst, arith}
+use Rattle.std.proofs.Common.{◌≡◌, ℕ, zero, suc, ◌+◌, ◌<◌, ◌≤◌, List, [], ◌∷◌, inl, length, refl, ap, sym, ◌∙◌, subst, arith}
 use native.Mathlib.Decide.{dec_lt}
 use Prim.{yes, no}
 use Rattle.face_poset.specs.declared.cells.Cell.{Cell}
 use Rattle.face_poset.specs.Poset.{count, cell_count}
 use Rattle.face_poset.specs.Below.{closure, facets_of_all}
 use Rattle.order_complex.specs.Chains.{cells_before, id_of, faces_of, chains_of}
-use Rattle.order_complex.specs.Sequences.{Member, IsAbove, Follows, IsChain}
+use Rattle.order_complex.specs.Sequences.{Member, IsAbove, Follows}
 use Rattle.order_complex.proofs.Members.{map-member}
 use Rattle.order_complex.proofs.FaceIds.{faces_at, faces_at-cell, cell_with, closure-of, facets_of_all-range}
 use Rattle.order_complex.proofs.Chained.{chains_of-member}

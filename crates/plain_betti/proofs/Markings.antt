@@ -1,7 +1,7 @@
 -- The cochain that is 1 on one chain and 0 on the others.
-use Rattle.std.proofs.Common.{◌≡◌, ◌≢◌, ℕ, ◌<◌, List, [], Bool, true, false, cond, map, length, replicate, set, get_or, refl, ap, sym, ◌∙◌, arith}
+use Rattle.std.proofs.Common.{◌≡◌, ◌≢◌, ℕ, ◌<◌, List, [], Bool, true, false, cond, length, replicate, set, get_or, refl, ap, sym, ◌∙◌, arith}
 use Rattle.std.specs.Str.{bytes_eq}
-use Rattle.std.proofs.lemmas.List.{same_lists, length-set, length-map, length-replicate, get_or-set_same, get_or-set_other, get_or-replicate, get_or-map, set-set, set-get_or}
+use Rattle.std.proofs.lemmas.List.{same_lists, length-set, length-map, length-replicate, get_or-set_other, get_or-replicate, get_or-map, set-set, set-get_or}
 use Rattle.std.proofs.lemmas.Grind.{get_or-set_at}
 use native.Mathlib.Decide.{dec_lt}
 use Prim.{yes, no}

@@ -1,9 +1,9 @@
 -- What the reduction of a coboundary's rows shows.
-use Rattle.std.proofs.Common.{◌≡◌, ℕ, ◌+◌, ◌*◌, ◌≤◌, List, map, length, ap, sym, ◌∙◌, subst, arith}
+use Rattle.std.proofs.Common.{◌≡◌, ℕ, ◌+◌, ◌*◌, ◌≤◌, List, length, ap, sym, ◌∙◌, subst, arith}
 use Rattle.std.proofs.Math.Nat.{mul-le-mul_left}
 use Rattle.std.proofs.lemmas.List.{length-map}
 use Rattle.small_field.specs.Field.{Ops}
-use Rattle.linear_algebra.specs.Echelon.{IsReduced, IsReducedTo, rank_of}
+use Rattle.linear_algebra.specs.Echelon.{IsReduced, IsReducedTo}
 use Rattle.field_matrix.proofs.Ranks.{few_pivots}
 use Rattle.order_complex.specs.Cochains.{coboundary_on, mark}
 use Rattle.order_complex.specs.Ranks.{rows_on}
@@ -17,8 +17,8 @@ module _ (F : Ops) (n rank : ℕ) (rows after : List (List ℕ)) (h : IsReducedT
   is_rank chains next r e f k = (
     after,
     subst (λ (s : ℕ). IsReducedTo F (length next) s (length next) (rows_on F chains next) after) (sym k)
-    (subst (λ (ws : List (List ℕ)). IsReducedTo F (length next) rank (length next) ws after) f
-    (subst (λ (m : ℕ). IsReducedTo F m rank m rows after) e h)),
+        (subst (λ (ws : List (List ℕ)). IsReducedTo F (length next) rank (length next) ws after) f
+        (subst (λ (m : ℕ). IsReducedTo F m rank m rows after) e h)),
   )
 
   -- rows times rank is at most rows times columns

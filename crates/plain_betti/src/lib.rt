@@ -10,3 +10,6 @@ mod numbers;
 mod ranks;
 
 pub use numbers::{Betti, betti_modulo, betti_numbers, betti_of};
+
+#[cfg(test)]
+mod tests;

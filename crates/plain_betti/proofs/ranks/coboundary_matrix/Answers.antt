@@ -1,4 +1,4 @@
-use Rattle.std.proofs.Common.{◌≡◌, ◌-◌, ◌+◌, ◌<◌, ℕ, List, length, sym, ap, ◌∙◌, arith}
+use Rattle.std.proofs.Common.{◌≡◌, ◌-◌, ◌+◌, ◌<◌, ℕ, List, length, ◌∙◌, arith}
 use Rattle.order_complex.specs.Chains.{chains_of}
 use Rattle.plain_betti.proofs.Coboundaries.{marking, unmarking, row_more, rows_all}
 use Rattle.plain_betti.proofs.ranks.coboundary_matrix.Goals as goal

@@ -1,4 +1,4 @@
-use Rattle.std.proofs.Common.{◌≡◌, ◌+◌, ℕ, List, replicate, length}
+use Rattle.std.proofs.Common.{◌≡◌, ◌+◌, replicate, length}
 use Rattle.order_complex.specs.Chains.{chains_of}
 use Rattle.plain_betti.proofs.Filling.{filled}
 use Rattle.plain_betti.proofs.Coboundaries.{row_on, zero_rows}

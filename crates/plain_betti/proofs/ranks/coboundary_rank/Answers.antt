@@ -1,4 +1,4 @@
-use Rattle.std.proofs.Common.{◌+◌, ◌∙◌}
+use Rattle.std.proofs.Common.{◌+◌}
 use Rattle.linear_algebra.specs.Echelon.{rank_of}
 use Rattle.order_complex.specs.Chains.{chains_of}
 use Rattle.plain_betti.proofs.Reductions.{is_reduced, is_rank, few_additions}
