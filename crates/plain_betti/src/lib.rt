@@ -1,0 +1,15 @@
+//! The Betti numbers of a space by plain elimination on all chains of its order complex.
+//!
+//! The coboundary of each degree is a dense matrix with a row for each chain of the degree and a column
+//! for each chain of the next. A Betti number is the number of chains of a degree less the ranks of the
+//! coboundaries into and out of it. Memory and time grow with rows times columns, so this serves some
+//! thousands of chains.
+#![tactic(auto)]
+
+mod numbers;
+mod ranks;
+
+pub use numbers::{Betti, betti_modulo, betti_numbers, betti_of};
+
+#[cfg(test)]
+mod tests;

@@ -1,0 +1,99 @@
+// Betti numbers by the ranks of the coboundaries.
+ghost use Rattle.std.specs.Prelude.{◌≡◌, ◌≤◌, ◌<◌, ◌+◌, IsTrue, IfOk, IfErr, OnOk};
+ghost use Rattle.small_field.specs.Prime.{mod_ops};
+ghost use Rattle.order_complex.specs.Chains.{chain_count};
+ghost use Rattle.order_complex.specs.Complex.{IsRefused};
+ghost use Rattle.plain_betti.specs.Numbers.{AreBetti, coboundary_entries, is_modulus};
+
+use crate::ranks::coboundary_rank;
+use face_poset::Space;
+use hap_outside::Steps;
+use linear_algebra::basis_by_ranks;
+use order_complex::{ChainFault, Chains, betti_by_ranks};
+use small_field::{Field, Gfp};
+use std::alloc::{AllocError, Global};
+use std::sync::ledger::Ledger;
+
+/// The Betti numbers of degrees 0 to 3.
+#[derive(Clone, Copy, PartialEq, Eq, Debug)]
+pub struct Betti {
+    pub zero: u32,
+    pub one: u32,
+    pub two: u32,
+    pub three: u32,
+}
+
+/// The number of chains of a degree less the ranks of the coboundaries into and out of it.
+fn chains_left(chains: u32, rank_last: u32, rank_next: u32) -> u32
+    requires { rank_last + rank_next ≤ chains }
+    ensures { result + rank_last + rank_next ≡ chains }
+{
+    chains - rank_last - rank_next
+}
+
+/// The Betti numbers of the order complex of a space, with coefficients in a field: in each degree the length
+/// of a basis of the cocycles modulo coboundaries (simplicial cohomology; textbook). Each row addition of the
+/// eliminations is one step; there are at most rows times columns of the three coboundaries, also where memory
+/// is wanting.
+pub fn betti_numbers<F: Field, L: Ledger>(
+    alloc: Global,
+    chains: &Chains<'_>,
+    steps: &mut Steps<L>,
+) -> Result<Betti, AllocError>
+    ensures betti { IfOk result (AreBetti F.ops chains.now) }
+    ensures steps { steps.new ≤ steps.old + coboundary_entries chains.now }
+{
+    betti_by_ranks::<F>();
+    basis_by_ranks::<F>();
+    let first = coboundary_rank::<F, L>(alloc, chains, 0, steps)?;
+    let second = coboundary_rank::<F, L>(alloc, chains, 1, steps)?;
+    let third = coboundary_rank::<F, L>(alloc, chains, 2, steps)?;
+    Ok(Betti {
+        zero: chains_left(chains.len(0), 0, first),
+        one: chains_left(chains.len(1), first, second),
+        two: chains_left(chains.len(2), second, third),
+        three: chains_left(chains.len(3), third, 0),
+    })
+}
+
+/// The Betti numbers modulo 2, 3, 5 or 7.
+pub fn betti_modulo<L: Ledger>(
+    alloc: Global,
+    chains: &Chains<'_>,
+    modulus: u8,
+    steps: &mut Steps<L>,
+) -> Result<Betti, AllocError>
+    requires modulus { IsTrue (is_modulus modulus) }
+    ensures betti { IfOk result (AreBetti (mod_ops modulus) chains.now) }
+    ensures steps { steps.new ≤ steps.old + coboundary_entries chains.now }
+{
+    match modulus {
+        2 => betti_numbers::<Gfp<2>, L>(alloc, chains, steps),
+        3 => betti_numbers::<Gfp<3>, L>(alloc, chains, steps),
+        5 => betti_numbers::<Gfp<5>, L>(alloc, chains, steps),
+        _ => betti_numbers::<Gfp<7>, L>(alloc, chains, steps),
+    }
+}
+
+/// The Betti numbers of a space modulo 2, 3, 5 or 7. A refusal comes where there are more chains than the limit,
+/// carries their number, and takes no step.
+pub fn betti_of<L: Ledger>(
+    alloc: Global,
+    space: &Space,
+    modulus: u8,
+    limit: u32,
+    steps: &mut Steps<L>,
+) -> Result<Betti, ChainFault>
+    requires modulus { IsTrue (is_modulus modulus) }
+    ensures betti { IfOk result (AreBetti (mod_ops modulus) space.now) }
+    ensures within { OnOk result (chain_count space.now ≤ limit) }
+    ensures refused { IfErr result (IsRefused (chain_count space.now) limit) }
+    ensures steps { steps.new ≤ steps.old + coboundary_entries space.now }
+    ensures untouched { limit < chain_count space.now → steps.new ≡ steps.old }
+{
+    let chains = Chains::new(alloc, space, limit)?;
+    match betti_modulo(alloc, &chains, modulus, steps) {
+        Ok(numbers) => Ok(numbers),
+        Err(_) => Err(ChainFault::Memory),
+    }
+}
