@@ -15,6 +15,3 @@ mod space;
 pub use outcome::{Outcome, end_with};
 pub use refusal::Refusal;
 pub use running::run;
-
-#[cfg(test)]
-mod tests;

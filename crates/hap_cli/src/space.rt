@@ -28,11 +28,7 @@ fn space_of_bytes(alloc: Global, bytes: &[u8]) -> Result<Space, Outcome>
 }
 
 /// Reads the space of the input, or says how the run ends without one.
-pub fn read_space<S: Source>(
-    alloc: Global,
-    input: &Input,
-    source: &mut S,
-) -> Result<Space, Outcome>
+pub fn read_space<S: Source>(alloc: Global, input: &Input, source: &mut S) -> Result<Space, Outcome>
     requires { S.begun source.old ≡ false }
     ensures space { IfOk result (λ space.
         OnNamed (source_of input.now).name (S.store source.old) (λ told. reading told ≡ Ok space)) }

@@ -1,0 +1,65 @@
+// The command `betti`.
+use crate::check::{CIRCLE, PLANE, POINT, SPHERE, TORUS, WEDGE};
+use crate::running::run_text;
+use std::test::Fail;
+
+#[test]
+fn betti_numbers_are_written(rt: HostRuntime) -> Result<(), Fail> {
+    let alloc = rt.alloc();
+    for (modulus, text, out) in [
+        ("2", POINT, b"betti 1 0 0 0\n".as_slice()),
+        ("3", POINT, b"betti 1 0 0 0\n"),
+        ("2", CIRCLE, b"betti 1 1 0 0\n"),
+        ("3", CIRCLE, b"betti 1 1 0 0\n"),
+        ("2", WEDGE, b"betti 1 2 0 0\n"),
+        ("3", WEDGE, b"betti 1 2 0 0\n"),
+        ("2", PLANE, b"betti 1 1 1 0\n"),
+        ("3", PLANE, b"betti 1 0 0 0\n"),
+        ("2", TORUS, b"betti 1 2 1 0\n"),
+        ("3", TORUS, b"betti 1 2 1 0\n"),
+        ("2", SPHERE, b"betti 1 0 0 1\n"),
+        ("3", SPHERE, b"betti 1 0 0 1\n"),
+        (
+            "2",
+            b"[[[1,0],[1,0]],[[2,1,2],[2,1,2],[2,1,2],[2,1,2],[2,1,2],[2,1,2],[2,1,2],[2,1,2],[2,1,2],[2,1,2],[2,1,2],[2,1,2],[2,1,2],[2,1,2]]]",
+            b"betti 1 13 0 0\n",
+        ),
+    ] {
+        let told = run_text(alloc, &["betti", "--mod", modulus], text)?;
+        assert_eq!(rt; told.status, 0);
+        assert_eq!(rt; told.out.bytes(), out);
+        assert_eq!(rt; told.err.bytes(), b"".as_slice());
+    }
+    Ok(())
+}
+
+#[test]
+fn the_modulus_is_two_unless_given(rt: HostRuntime) -> Result<(), Fail> {
+    let alloc = rt.alloc();
+    for (words, out) in [
+        (["betti"].as_slice(), b"betti 1 1 1 0\n".as_slice()),
+        (&["betti", "--mod", "05"], b"betti 1 0 0 0\n"),
+        (&["--mod=7", "betti"], b"betti 1 0 0 0\n"),
+    ] {
+        let told = run_text(alloc, words, PLANE)?;
+        assert_eq!(rt; told.status, 0);
+        assert_eq!(rt; told.out.bytes(), out);
+    }
+    Ok(())
+}
+
+#[test]
+fn too_many_chains_are_a_limit(rt: HostRuntime) -> Result<(), Fail> {
+    let alloc = rt.alloc();
+    let mut text = Vec::new(alloc);
+    text.extend_from_slice(b"[[[1,0]")?;
+    for _point in 1..2001 {
+        text.extend_from_slice(b",[1,0]")?;
+    }
+    text.extend_from_slice(b"]]")?;
+    let told = run_text(alloc, &["betti"], &text)?;
+    assert_eq!(rt; told.status, 5);
+    assert_eq!(rt; told.out.bytes(), b"".as_slice());
+    assert_eq!(rt; told.err.bytes(), b"hap: limit: 2001 chains\n".as_slice());
+    Ok(())
+}

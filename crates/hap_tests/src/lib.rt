@@ -1,0 +1,17 @@
+//! Tests of the whole program, through its one public call.
+//!
+//! They show what no clause says: that runs succeed where there is memory, and the texts of worked examples.
+#![tactic(auto)]
+
+#[cfg(test)]
+mod betti;
+#[cfg(test)]
+mod cells;
+#[cfg(test)]
+mod check;
+#[cfg(test)]
+mod outside;
+#[cfg(test)]
+mod running;
+#[cfg(test)]
+mod words;

@@ -1,0 +1,48 @@
+// The words of the command line.
+use crate::running::run_text;
+use std::test::Fail;
+
+const USAGE: &[u8] =
+    b"hap: usage: hap COMMAND [--kind K] [--in NAME] [--mod P] [--sheets N] [--budget B] [--from T] [--index I] [--size N]\n";
+
+#[test]
+fn other_words_are_usage(rt: HostRuntime) -> Result<(), Fail> {
+    let alloc = rt.alloc();
+    let lines: [&[&str]; 28] = [
+        &[],
+        &["cells", "--mod", "2"],
+        &["betti", "--mod", "6"],
+        &["betti", "--mod", "4"],
+        &["covers", "--sheets", "0"],
+        &["covers"],
+        &["frob"],
+        &["cells", "cells"],
+        &["cells", "--kind"],
+        &["cells", "--kind", "knot"],
+        &["make"],
+        &["make", "--size", "1"],
+        &["make", "--size", "20"],
+        &["betti", "--mod", "2", "--mod", "2"],
+        &["cells", "--help"],
+        &["--help"],
+        &["cover", "--sheets", "2"],
+        &["covers", "--sheets", "6"],
+        &["covers", "--sheets", "2", "--budget", "0"],
+        &["covers", "--sheets", "2", "--from", "-"],
+        &["covers", "--sheets", "2", "--from", "2:"],
+        &["covers", "--sheets", "2", "--from", "2:9"],
+        &["cells", "-h"],
+        &["cells", "--kind=cubical", "--kind=cubical"],
+        &["verify", "--kind", "boundary"],
+        &["cup"],
+        &["check", "--kind", "arcs"],
+        &["cells", "--sheets", "2"],
+    ];
+    for line in lines {
+        let told = run_text(alloc, line, b"[[[1,0]]]")?;
+        assert_eq!(rt; told.status, 2);
+        assert_eq!(rt; told.out.bytes(), b"".as_slice());
+        assert_eq!(rt; told.err.bytes(), USAGE);
+    }
+    Ok(())
+}
