@@ -1,5 +1,5 @@
 -- Numbers put into a list one after another are as many as there are in the increasing list of the same numbers.
-use Rattle.std.proofs.Common.{◌≡◌, ℕ, ◌+◌, ◌-◌, ◌<◌, ◌≤◌, List, [], ◌∷◌, ◌++◌, Bool, true, eqb, length, filter, take, get_or, refl, ap, sym, ◌∙◌, subst, arith, rules, inl, inr}
+use Rattle.std.proofs.Common.{◌≡◌, ℕ, ◌+◌, ◌-◌, ◌<◌, ◌≤◌, List, [], ◌∷◌, ◌++◌, Bool, eqb, length, take, get_or, refl, ap, ◌∙◌, arith, inl, inr}
 use Rattle.std.specs.List.{IsDistinct, list_any, flat_map}
 use Rattle.std.specs.List.Sorted.{IsStrictlyIncreasing}
 use Rattle.std.proofs.lemmas.List.{take_more, append-nil}
@@ -11,7 +11,7 @@ use Rattle.face_poset.specs.Below.{facets_of_all}
 use Rattle.face_poset.proofs.Members.{increasing-upto, holds-upto}
 use Rattle.face_poset.proofs.Facets.{distinct_rising}
 use Rattle.regular_check.specs.Marks.{inserted, inserted_all}
-use Rattle.regular_check.proofs.Members.{In, here, there, In-filter, In-inside, filter-In, any-In, any-some, holds-In, In-holds, In-at, at-In, In-left, In-right, append-In}
+use Rattle.regular_check.proofs.Members.{In, here, there, In-filter, filter-In, any-In, any-some, holds-In, In-holds, In-at, In-left, In-right, append-In}
 use Rattle.regular_check.proofs.Inserted.{AreMore, are_more}
 use Rattle.regular_check.proofs.Cells.{facets-cell}
 use Rattle.regular_check.proofs.Spreading.{length-inside}

@@ -1,6 +1,6 @@
 -- The definitions on small spaces.
-use Rattle.std.proofs.Common.{◌≡◌, ℕ, List, [], ◌∷◌, refl}
-use Rattle.regular_check.specs.Components.{Numbering, components_of}
+use Rattle.std.proofs.Common.{◌≡◌, [], ◌∷◌, refl}
+use Rattle.regular_check.specs.Components.{components_of}
 
 -- two points
 two_points : components_of (([] ∷ [] ∷ []) ∷ [] ∷ [] ∷ [] ∷ []) ≡ record { count = 2; numbers = 1 ∷ 2 ∷ [] }

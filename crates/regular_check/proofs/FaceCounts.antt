@@ -4,7 +4,7 @@ use Rattle.std.specs.List.{list_any}
 use Rattle.std.proofs.lemmas.List.{length-append}
 use Rattle.std.proofs.lemmas.List.Elements.{filter-append}
 use Rattle.face_poset.specs.declared.cells.Cell.{Cell}
-use Rattle.face_poset.specs.Words.{holds, upto}
+use Rattle.face_poset.specs.Words.{holds}
 use Rattle.face_poset.specs.Poset.{IsCell, IsSpace, count, facets_of}
 use Rattle.face_poset.specs.Below.{cell_at, facets_of_all}
 use Rattle.face_poset.proofs.Members.{members_sorted}

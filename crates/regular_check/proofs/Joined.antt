@@ -1,6 +1,6 @@
 -- Vertices that edges join.
-use Rattle.std.proofs.Common.{◌≡◌, inr, ℕ, ◌+◌, ◌-◌, ◌<◌, ◌≤◌, List, true, ◌&&◌, length, get_or, arith}
-use Rattle.std.specs.List.{list_any, flat_map}
+use Rattle.std.proofs.Common.{◌≡◌, inr, ℕ, ◌+◌, ◌<◌, ◌≤◌, List, ◌&&◌, get_or, arith}
+use Rattle.std.specs.List.{flat_map}
 use Rattle.face_poset.specs.Words.{upto, holds}
 use Rattle.face_poset.specs.Poset.{IsCell, IsSpace, count, facets_of, cofaces_of}
 use Rattle.face_poset.proofs.Members.{holds-upto, get_or-upto, length-upto}

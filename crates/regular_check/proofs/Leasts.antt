@@ -1,7 +1,6 @@
 -- The least vertices of components, and the numbers of components.
-use Rattle.std.proofs.Common.{◌≡◌, ◌↔◌, ◌⊎◌, inl, inr, ℕ, zero, suc, ◌+◌, ◌-◌, ◌<◌, ◌≤◌, List, [], ◌∷◌, ◌++◌, Bool, true, false, cond, ◌&&◌, ◌||◌, filter, length, get_or, refl, ap, sym, ◌∙◌, subst, arith}
+use Rattle.std.proofs.Common.{◌≡◌, ◌↔◌, inl, inr, ℕ, zero, suc, ◌+◌, ◌-◌, ◌<◌, ◌≤◌, List, [], ◌∷◌, Bool, true, false, cond, ◌&&◌, ◌||◌, filter, length, get_or, refl, ap, sym, ◌∙◌, subst, arith}
 use Rattle.std.specs.List.{list_any}
-use Rattle.std.specs.List.Sorted.{IsStrictlyIncreasing}
 use Rattle.std.proofs.lemmas.Bool.{eq-eqb, cases_lt}
 use Rattle.std.proofs.lemmas.List.{length-append}
 use Rattle.std.proofs.lemmas.List.Elements.{filter-append}
@@ -9,17 +8,17 @@ use Rattle.std.proofs.lemmas.List.Kept.{IsStrictlyIncreasing-filter}
 use Rattle.face_poset.specs.Words.{upto, holds}
 use Rattle.face_poset.specs.Poset.{count, facets_of}
 use Rattle.face_poset.proofs.Members.{upto_more, increasing-upto, filter_same}
-use Rattle.regular_check.specs.Reach.{reaches, Reaches, at_start, on}
-use Rattle.regular_check.specs.Components.{vertices, share_edge, are_joined, least_of, is_least, leasts_upto, component_of, component_count, SameComponentIsAPath}
-use Rattle.regular_check.proofs.Members.{In, In-filter, In-inside, filter-In, holds-In, In-holds, at-In, In-at}
-use Rattle.regular_check.proofs.Passing.{same_bool, not_true}
+use Rattle.regular_check.specs.Reach.{Reaches, at_start, on}
+use Rattle.regular_check.specs.Components.{vertices, share_edge, are_joined, least_of, is_least, leasts_upto, component_of, SameComponentIsAPath}
+use Rattle.regular_check.proofs.Members.{In, In-filter, In-inside, filter-In, In-holds, at-In, In-at}
+use Rattle.regular_check.proofs.Passing.{same_bool}
 use Rattle.regular_check.proofs.Reach.{reaches_is}
 use Rattle.regular_check.proofs.Walking.{low_least}
 use Rattle.regular_check.proofs.Joined.{In-upto, upto-In}
 
 -- ---- paths
 
-path_on : (step : ℕ → ℕ → Bool) (all : List ℕ) {x y z : ℕ} → Reaches step all x y → Reaches step all y z → Reaches step all x z
+pub path_on : (step : ℕ → ℕ → Bool) (all : List ℕ) {x y z : ℕ} → Reaches step all x y → Reaches step all y z → Reaches step all x z
 path_on step all p at_start = p
 path_on step all p (on q e g) = on (path_on step all p q) e g
 
@@ -27,7 +26,7 @@ path_in : (step : ℕ → ℕ → Bool) (all : List ℕ) {x y : ℕ} → holds a
 path_in step all m at_start = m
 path_in step all m (on q e g) = g
 
-path_back : (step : ℕ → ℕ → Bool) (all : List ℕ) → ((a b : ℕ) → step a b ≡ step b a) → {x y : ℕ} → holds all x ≡ true → Reaches step all x y → Reaches step all y x
+pub path_back : (step : ℕ → ℕ → Bool) (all : List ℕ) → ((a b : ℕ) → step a b ≡ step b a) → {x y : ℕ} → holds all x ≡ true → Reaches step all x y → Reaches step all y x
 path_back step all s m at_start = at_start
 path_back step all s m (on {y} {z} q e g) = path_on step all (on at_start (s z y ∙ e) (path_in step all m q)) (path_back step all s m q)
 

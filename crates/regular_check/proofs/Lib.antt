@@ -16,4 +16,6 @@ pub mod Joined
 pub mod Leasts
 pub mod Numbered
 pub mod Parts
+pub mod RegularParts
+pub mod Rounds
 pub mod Examples

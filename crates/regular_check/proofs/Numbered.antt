@@ -1,5 +1,5 @@
 -- The numbers that are given to vertices, component by component.
-use Rattle.std.proofs.Common.{◌≡◌, ◌≢◌, ◌⊎◌, inl, inr, ℕ, ◌+◌, ◌-◌, ◌<◌, ◌≤◌, List, Bool, true, false, cond, filter, length, get_or, map, replicate, refl, ap, sym, ◌∙◌, subst, arith}
+use Rattle.std.proofs.Common.{◌≡◌, ◌≢◌, inl, inr, ℕ, ◌+◌, ◌<◌, ◌≤◌, List, Bool, true, false, cond, length, get_or, map, replicate, refl, ap, sym, ◌∙◌, subst, arith}
 use Rattle.std.proofs.lemmas.Bool.{false≢true, eq-eqb, cases_lt}
 use Rattle.std.proofs.lemmas.List.{same_lists, get_or_default, get_or-replicate, length-replicate}
 use Rattle.std.proofs.lemmas.List.FromFn.{length-map-range_with_len, get_or-map-range_with_len}
@@ -7,7 +7,7 @@ use Rattle.face_poset.specs.Words.{upto, holds}
 use Rattle.face_poset.specs.Poset.{count}
 use Rattle.face_poset.proofs.Members.{differ, length-upto}
 use Rattle.face_poset.proofs.BelowLemmas.{length-filter-le}
-use Rattle.regular_check.specs.Components.{vertices, share_edge, are_joined, least_of, is_least, leasts_upto, component_of, component_count}
+use Rattle.regular_check.specs.Components.{vertices, are_joined, least_of, is_least, leasts_upto, component_of, component_count}
 use Rattle.regular_check.proofs.Members.{In}
 use Rattle.regular_check.proofs.Joined.{In-upto, upto-In}
 use Rattle.regular_check.proofs.Leasts.{passing-more, path_least, path_joined, joined_path, is_least_of, least_again, component_low}

@@ -1,5 +1,5 @@
 -- The search finds exactly what is connected with the first cell.
-use Rattle.std.proofs.Common.{◌≡◌, ◌⊎◌, inl, inr, ℕ, ◌+◌, ◌-◌, ◌<◌, ◌≤◌, List, [], ◌∷◌, Bool, true, ◌&&◌, eqb, map, length, get_or, refl, ap, sym, ◌∙◌, subst, arith}
+use Rattle.std.proofs.Common.{◌≡◌, ◌⊎◌, inl, inr, ℕ, ◌+◌, ◌-◌, ◌≤◌, List, [], ◌∷◌, Bool, true, ◌&&◌, eqb, map, length, get_or, refl, ap, sym, ◌∙◌, subst, arith}
 use Rattle.std.specs.List.{list_all, sum}
 use Rattle.std.proofs.lemmas.Bool.{eqb-true}
 use Rattle.face_poset.specs.Words.{holds}
@@ -8,7 +8,7 @@ use Rattle.regular_check.specs.declared.tally.Tally.{Tally}
 use Rattle.regular_check.specs.Reach.{reaches}
 use Rattle.regular_check.specs.Rules.{sharing, meet, each_twice, connected}
 use Rattle.regular_check.specs.Tally.{tally_at, IsTally, AreOthers, other}
-use Rattle.regular_check.proofs.Members.{In, here, there, In-filter, filter-In, In-inside, any-In, any-some, all-In, In-all, holds-In, In-holds, In-at, at-In}
+use Rattle.regular_check.proofs.Members.{In, here, there, In-filter, filter-In, In-inside, any-In, any-some, all-In, In-holds, In-at, at-In}
 use Rattle.regular_check.proofs.Cells.{facets-cell}
 use Rattle.regular_check.proofs.Spreading.{AreNexts}
 
@@ -39,6 +39,11 @@ other_is (a ∷ b ∷ d ∷ xs) c z e h k = absurd (omega arith)
 
 -- ---- across a facet
 
+-- where each facet is a facet of exactly two, two of the cells have it
+pub two_sharing : (space : List (List (List ℕ))) (dim : ℕ) (cells : List ℕ) (c f : ℕ) → each_twice space dim cells ≡ true → In c cells → In f (facets_of space dim c) → length (sharing space dim cells f) ≡ 2
+two_sharing space dim cells c f e m k =
+    eqb-true (length (sharing space dim cells f)) 2 (all-In (λ g. eqb (length (sharing space dim cells g)) 2) (all-In (λ d. list_all (λ g. eqb (length (sharing space dim cells g)) 2) (facets_of space dim d)) e m) k)
+
 module _ (space : List (List (List ℕ))) (dim : ℕ) (cells : List ℕ) (tallies : List Tally) where
   -- what is known of the tallies
   pub record IsReady : Type 0 where
@@ -58,7 +63,7 @@ module _ (space : List (List (List ℕ))) (dim : ℕ) (cells : List ℕ) (tallie
 
   -- two of the cells have the facet
   pub pair : IsReady → (c f : ℕ) → In c cells → In f (facets_of space dim c) → length (sharing space dim cells f) ≡ 2
-  pair h c f m k = eqb-true (length (sharing space dim cells f)) 2 (all-In (λ g. eqb (length (sharing space dim cells g)) 2) (all-In (λ d. list_all (λ g. eqb (length (sharing space dim cells g)) 2) (facets_of space dim d)) h.twice m) k)
+  pair h c f m k = two_sharing space dim cells c f h.twice m k
 
   pub shares : (c f : ℕ) → In c cells → In f (facets_of space dim c) → In c (sharing space dim cells f)
   shares c f m k = In-filter (λ d. holds (facets_of space dim d) f) m (In-holds k)

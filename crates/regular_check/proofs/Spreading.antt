@@ -1,5 +1,5 @@
 -- A search from one number by steps inside a list: what was found, of which the first were looked at.
-use Rattle.std.proofs.Common.{◌≡◌, ◌↔◌, ◌⊎◌, inl, inr, ℕ, ◌+◌, ◌<◌, ◌≤◌, refl, List, [], ◌∷◌, Bool, true, eqb, length, get_or, ap, sym, ◌∙◌, subst, arith, rules}
+use Rattle.std.proofs.Common.{◌≡◌, ◌⊎◌, inl, inr, ℕ, ◌+◌, ◌<◌, ◌≤◌, refl, List, [], ◌∷◌, Bool, true, eqb, length, get_or, ap, sym, ◌∙◌, subst, arith, rules}
 use Rattle.std.specs.List.{IsDistinct}
 use Rattle.std.proofs.lemmas.Cmp.{nat_eq_equiv}
 use Rattle.std.proofs.lemmas.Bool.Decides.{eqb_tells}

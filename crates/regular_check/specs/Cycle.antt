@@ -1,13 +1,18 @@
 -- The cycle of a 2-cell: from its least vertex, first along the lower-numbered of the two edges there.
-use Rattle.std.specs.Prelude.{◌≡◌, ℕ, zero, suc, ◌+◌, ◌-◌, ◌≤◌, ◌<◌, ◌==◌, List, [], ◌∷◌, length, cond, filter, not, slice_index, take, drop}
-use Rattle.face_poset.specs.Poset.{facets_of}
+use Rattle.std.specs.Prelude.{◌≡◌, ◌≢◌, ℕ, zero, suc, ◌+◌, ◌-◌, ◌≤◌, ◌<◌, ◌==◌, List, [], ◌∷◌, ◌++◌, length, cond, filter, not, map, slice_index, take, drop, AllPairs}
+use Rattle.face_poset.specs.Words.{holds}
+use Rattle.face_poset.specs.Poset.{count, facets_of, IsSpace}
 use Rattle.face_poset.specs.Below.{facets_of_all}
 use Rattle.regular_check.specs.declared.cycles.Step.{Step}
-use Rattle.regular_check.specs.Rules.{sharing}
+use Rattle.regular_check.specs.Rules.{sharing, IsRegular}
 
 -- the vertex where a step ends
 abbrev pub end_of : List (List (List ℕ)) → Step → ℕ
 end_of space step = slice_index (facets_of space 1 step.edge) (cond step.forward 1 0)
+
+-- the vertex where a step begins
+abbrev pub start_of : List (List (List ℕ)) → Step → ℕ
+start_of space step = slice_index (facets_of space 1 step.edge) (cond step.forward 0 1)
 
 -- the step from a vertex along an edge: forward where the vertex is the first of the edge's two
 abbrev pub step_from : List (List (List ℕ)) → (vertex edge : ℕ) → Step
@@ -38,6 +43,19 @@ cycle_along space edges = walk space edges (length edges) (least_vertex space ed
 
 abbrev pub cycle : List (List (List ℕ)) → (cell : ℕ) → List Step
 cycle space cell = cycle_along space (facets_of space 2 cell)
+
+-- steps that go once round: each of the edges occurs, and only once; each step ends where the next one begins, and the last one where
+-- the first one begins; and no two begin at the same vertex
+pub record GoesRound (space : List (List (List ℕ))) (edges : List ℕ) (steps : List Step) : Type 0 where
+  pub edges_are : (e : ℕ) → holds (map (λ (step : Step). step.edge) steps) e ≡ holds edges e
+  pub edges_once : AllPairs (λ a b. a ≢ b) (map (λ (step : Step). step.edge) steps)
+  pub closes : map (end_of space) steps ≡ drop 1 (map (start_of space) steps) ++ take 1 (map (start_of space) steps)
+  pub vertices_once : AllPairs (λ a b. a ≢ b) (map (start_of space) steps)
+
+-- in a regular space the cycle of each 2-cell goes once round
+abbrev pub CyclesGoRound : Type 0
+CyclesGoRound =
+    (space : List (List (List ℕ))) (cell : ℕ) → IsSpace space → IsRegular space → 1 ≤ cell → cell ≤ count space 2 → GoesRound space (facets_of space 2 cell) (cycle space cell)
 
 -- the cycles of the first 2-cells stand one after another in the steps; cycle c from where c - 1 ends
 pub record AreCycles (space : List (List (List ℕ))) (cells : ℕ) (ends : List ℕ) (steps : List Step) : Type 0 where

@@ -18,7 +18,7 @@ mod tally;
 pub use components::Components;
 pub use cycles::Step;
 pub use fault::RegularFault;
-pub use laws::{rounds_reach_what_steps_lead_to, same_component_is_a_path};
+pub use laws::{cycles_go_round, rounds_reach_what_steps_lead_to, same_component_is_a_path};
 pub use regular::{Regular, check};
 
 #[cfg(test)]

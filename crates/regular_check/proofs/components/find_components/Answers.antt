@@ -1,10 +1,10 @@
-use Rattle.std.proofs.Common.{◌≡◌, ◌<◌, ◌≤◌, ◌+◌, ℕ, List, ◌++◌, take, drop, cond, length, get_or, ap, ◌∙◌, sym, subst, arith, Vec, Global}
+use Rattle.std.proofs.Common.{◌≡◌, ◌<◌, ◌+◌, ℕ, List, ◌++◌, take, drop, cond, length, get_or, ap, ◌∙◌, sym, subst, arith, Vec, Global}
 use Rattle.std.proofs.lemmas.List.{get_or_default}
 use Rattle.std.proofs.lemmas.Grind.{common_steps}
 use Rattle.face_poset.specs.Words.{holds}
 use Rattle.face_poset.specs.Poset.{count}
 use Rattle.regular_check.specs.Marks.{Found}
-use Rattle.regular_check.specs.Components.{Numbering, components_of, component_count}
+use Rattle.regular_check.specs.Components.{Numbering, component_count}
 use Rattle.regular_check.proofs.Numbered.{IsNumbered, number_low, numbered_idle, numbered_more, numbered_all}
 use Rattle.regular_check.proofs.components.find_components.Goals as goal
 use Rattle.regular_check.proofs.components.find_components.Goals.{then-index-eq0+in_ok-find_joined, else-index-eq0}

@@ -1,14 +1,12 @@
-use Rattle.std.proofs.Common.{rules, [], length, ◌≡◌, ◌++◌, ℕ, List, ◌∙◌, None}
+use Rattle.std.proofs.Common.{rules, ◌≡◌, ◌++◌, ℕ, List, ◌∙◌, None}
 use Rattle.std.specs.List.{flat_map}
 use Rattle.std.proofs.lemmas.Result.{err_from_is_err_and}
 use Rattle.face_poset.specs.Words.{upto}
-use Rattle.face_poset.specs.Poset.{count, facets_of}
+use Rattle.face_poset.specs.Poset.{count}
 use Rattle.regular_check.specs.declared.fault.RegularFault.{RegularFault}
-use Rattle.std.proofs.lemmas.Bool.{eqb-true}
-use Rattle.regular_check.specs.declared.fault.RegularFault.TheVariants.{EdgeEnds, NotCycle}
-use Rattle.regular_check.proofs.Members.{and-left}
-use Rattle.regular_check.specs.Rules.{Rule, rule, two_ends, one_cycle, each_twice, connected, edge_rules, disk_rules, solid_rules, fault_in, first_fault, IsRegular, IsFault}
-use Rattle.regular_check.proofs.Faults.{none_before, some_before, fault_moves, kept_holds, none_each}
+use Rattle.regular_check.specs.Rules.{Rule, edge_rules, disk_rules, solid_rules, fault_in, first_fault, IsRegular, IsFault}
+use Rattle.regular_check.proofs.Faults.{none_before, some_before, fault_moves}
+use Rattle.regular_check.proofs.RegularParts.{edges_kept, disks_kept}
 use Rattle.regular_check.proofs.regular.check.Goals as goal
 
 abbrev edges : List (List (List ℕ)) → List Rule
@@ -58,11 +56,7 @@ pub returns-clause-fault : goal.returns-clause-fault
 returns-clause-fault c = none_at_all c.args.space.now c.in_ok-check_edges.ensures c.in_ok-check_disks.ensures.fault c.in_ok-check_solids.ensures.fault
 
 pub all_cycles-requires-clause-ends : goal.all_cycles-requires-clause-ends
-all_cycles-requires-clause-ends c e low high =
-    eqb-true (length (facets_of c.args.space.now 1 e)) 2
-    (kept_holds (rule (two_ends c.args.space.now e) (EdgeEnds e)) [] (none_each (edge_rules c.args.space.now) (count c.args.space.now 1) e c.in_ok-check_edges.ensures low high))
+all_cycles-requires-clause-ends c = edges_kept c.args.space.now c.in_ok-check_edges.ensures
 
 pub all_cycles-requires-clause-twice : goal.all_cycles-requires-clause-twice
-all_cycles-requires-clause-twice c n low high =
-    and-left (each_twice c.args.space.now 1 (facets_of c.args.space.now 2 n)) (connected c.args.space.now 1 (facets_of c.args.space.now 2 n))
-    (kept_holds (rule (one_cycle c.args.space.now n) (NotCycle n)) [] (none_each (disk_rules c.args.space.now) (count c.args.space.now 2) n c.in_ok-check_disks.ensures.fault low high))
+all_cycles-requires-clause-twice c n low high = (disks_kept c.args.space.now c.in_ok-check_disks.ensures.fault n low high).0

@@ -1,4 +1,4 @@
-use Rattle.std.proofs.Common.{◌≡◌, ◌≢◌, ◌+◌, ◌-◌, ◌≤◌, ℕ, List, [], ◌∷◌, length, Bool, true, false, not, refl, ap, sym, ◌∙◌, arith, subst, pos, ◌+ℤ◌, ◌-ℤ◌, None, Some, Result, Ok, Err, OnOk, IfErr, MatchResult}
+use Rattle.std.proofs.Common.{◌≡◌, ◌≢◌, ◌+◌, ◌≤◌, ℕ, List, [], ◌∷◌, length, Bool, true, false, not, refl, ap, sym, ◌∙◌, arith, subst, pos, ◌+ℤ◌, ◌-ℤ◌, None, Some, Result, Ok, Err, OnOk, IfErr, MatchResult}
 use Rattle.std.proofs.lemmas.Bool.{eq-eqb, false≢true}
 use Rattle.face_poset.proofs.Members.{differ}
 use Rattle.face_poset.specs.Poset.{IsCell, IsSpace, count, facets_of}

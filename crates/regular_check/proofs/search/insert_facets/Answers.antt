@@ -1,4 +1,4 @@
-use Rattle.std.proofs.Common.{◌≡◌, ℕ, List, take, get_or, ap, sym, ◌∙◌}
+use Rattle.std.proofs.Common.{ℕ, List, take, ap, sym, ◌∙◌}
 use Rattle.std.specs.List.{flat_map}
 use Rattle.face_poset.specs.Poset.{facets_of}
 use Rattle.regular_check.specs.Marks.{inserted_all}

@@ -1,4 +1,4 @@
-use Rattle.std.proofs.Common.{◌≡◌, ◌+◌, ℕ, List, take, get_or, ap, sym, ◌∙◌}
+use Rattle.std.proofs.Common.{ℕ, List, take, get_or, ap, sym, ◌∙◌}
 use Rattle.std.proofs.lemmas.List.{take_more}
 use Rattle.regular_check.specs.Marks.{inserted, inserted_all}
 use Rattle.regular_check.proofs.Inserted.{inserted_all-push}

@@ -1,4 +1,4 @@
-use Rattle.std.proofs.Common.{◌≡◌, ◌<◌, ◌≤◌, ◌+◌, ℕ, List, Bool, cond, length, get_or, ap, ◌∙◌, sym, subst, arith, refl}
+use Rattle.std.proofs.Common.{◌≡◌, ◌<◌, ◌≤◌, ◌+◌, ℕ, List, Bool, cond, length, get_or, ap, ◌∙◌, arith, refl}
 use Rattle.face_poset.specs.Words.{holds}
 use Rattle.regular_check.specs.Marks.{IsMarked, Found}
 use Rattle.regular_check.proofs.MarkLemmas.{marked-at}
