@@ -1,8 +1,10 @@
 // The worked examples of chains and their numbers.
-use crate::{ChainFault, Chains};
+use crate::{ChainFault, Chains, Cochain};
 use face_poset::{Cell, Graded, Signed, Space, SpaceFault, from_nest};
 use gap_text::parse;
-use std::alloc::Global;
+use small_field::{Field, Gfp};
+use std::alloc::{AllocError, Global};
+use std::process::Abort;
 use std::test::Fail;
 
 const CIRCLE: &str = "[[[1,0],[1,0]],[[2,1,2],[2,1,2]]]";
@@ -92,5 +94,51 @@ fn tells_facets_with_their_signs(rt: HostRuntime) -> Result<(), Fail> {
         let wanted = if *facet == 1 { -1i8 } else { 1 };
         assert_eq!(rt; chains.sign(1, 2, *facet), wanted);
     }
+    Ok(())
+}
+
+/// On the circle, with the mark of the first point and the mark of the first chain of degree 1: the coboundary on that
+/// chain, the boundary at its two points, and the product on it.
+fn circle_values<F: Field>(
+    rt: &impl Abort,
+    alloc: Global,
+    chains: &Chains<'_>,
+) -> Result<[u32; 4], AllocError> {
+    assert!(rt; chains.len(0) == 4);
+    assert!(rt; chains.len(1) == 4);
+    let mut point = Cochain::<F>::zero(alloc, 4)?;
+    let mut edge = Cochain::<F>::zero(alloc, 4)?;
+    point.set(1, F::one());
+    edge.set(1, F::one());
+    Ok([
+        chains.coboundary_at(0, &point, 1).to_number(),
+        chains.boundary_at(1, &edge, 1).to_number(),
+        chains.boundary_at(1, &edge, 3).to_number(),
+        chains.cup_at(0, &point, 1, &edge, 1).to_number(),
+    ])
+}
+
+/// The element at the second of three cells, set to one, and the entry that it gives.
+fn second_entry<F: Field>(rt: &impl Abort, alloc: Global) -> Result<[u32; 3], AllocError> {
+    let mut values = Cochain::<F>::zero(alloc, 3)?;
+    values.set(2, F::one());
+    assert_eq!(rt; values.len(), 3);
+    let entries = values.sparse(alloc)?;
+    assert!(rt; entries.len() == 1);
+    let entry = entries.get(0);
+    Ok([
+        values.get(2).to_number(),
+        entry.position,
+        entry.value as u32,
+    ])
+}
+
+#[test]
+fn computes_values_on_the_circle(rt: HostRuntime) -> Result<(), Fail> {
+    let space = read(rt.alloc(), CIRCLE)?;
+    let chains = Chains::new(rt.alloc(), &space, 8)?;
+    let values = circle_values::<Gfp<3>>(&rt, rt.alloc(), &chains)?;
+    assert_eq!(rt; values, [2, 2, 1, 1]);
+    assert_eq!(rt; second_entry::<Gfp<3>>(&rt, rt.alloc())?, [1, 2, 1]);
     Ok(())
 }
