@@ -10,6 +10,8 @@ mod laws;
 mod layers;
 mod listing;
 mod searching;
+#[cfg(test)]
+mod tests;
 mod uppers;
 mod values;
 
