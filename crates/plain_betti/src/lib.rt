@@ -2,8 +2,8 @@
 //!
 //! The coboundary of each degree is a dense matrix with a row for each chain of the degree and a column
 //! for each chain of the next. A Betti number is the number of chains of a degree less the ranks of the
-//! coboundaries into and out of it. Memory and time grow with rows times columns, so this serves some
-//! thousands of chains.
+//! coboundaries into and out of it. A matrix has a byte for each row and column, and its reduction at most
+//! rows times rank row additions, so this serves some thousands of chains.
 #![tactic(auto)]
 
 mod numbers;

@@ -68,3 +68,18 @@ fn counts_the_circle_and_the_plane(rt: HostRuntime) -> Result<(), Fail> {
     assert_eq!(rt; count(rt.alloc(), &plane, 3, 2000)?, betti(1, 0, 0, 0));
     Ok(())
 }
+
+#[test]
+fn refuses_above_the_limit_alone(rt: HostRuntime) -> Result<(), Fail> {
+    let sphere = read(
+        rt.alloc(),
+        "[[[1,0],[1,0]],[[2,1,2],[2,1,2]],[[2,1,2],[2,1,2]],[[2,1,2],[2,1,2]]]",
+    )?;
+    assert_eq!(rt; count(rt.alloc(), &sphere, 5, 80)?, betti(1, 0, 0, 1));
+    assert_eq!(rt; count(rt.alloc(), &sphere, 7, 80)?, betti(1, 0, 0, 1));
+    assert_eq!(rt;
+        count(rt.alloc(), &sphere, 2, 79).err(),
+        Some(ChainFault::TooManyChains(80))
+    );
+    Ok(())
+}
