@@ -1,0 +1,4 @@
+pub mod Places
+pub mod Triples
+pub mod Neighbors
+pub mod Numbering

@@ -1,0 +1,4 @@
+//! Spaces of arrays, whose cells are tuples of coordinates.
+#![tactic(auto)]
+
+mod grid;
