@@ -161,12 +161,13 @@ module _ (side place : ℕ) (some : 0 < side) (low : place < volume side) where
     -- a facet in one direction
     moved_there : (stride c : ℕ) {k : ℕ} → c < side → In k (pair_places side stride place c) → (is_odd c ≡ true) × ((d : ℕ) × (d < side) × (is_odd d ≡ false) × (k ≡ moved stride place c d))
     moved_there stride c l i =
-        let r = in_pair (is_odd c) (moved stride place c (c - 1)) (moved stride place c ((c + 1) % side)) i in
-        (r.0,
-        elim r.1 [
-          | inl e ↦ let w = both c (c - 1) l r.0 (inl refl) in (c - 1, w.0, w.1, e)
-          | inr e ↦ let w = both c ((c + 1) % side) l r.0 (inr refl) in ((c + 1) % side, w.0, w.1, e)
-        ])
+        let r = in_pair (is_odd c) (moved stride place c (c - 1)) (moved stride place c ((c + 1) % side)) i in (
+          r.0,
+          elim r.1 [
+            | inl e ↦ let w = both c (c - 1) l r.0 (inl refl) in (c - 1, w.0, w.1, e)
+            | inr e ↦ let w = both c ((c + 1) % side) l r.0 (inr refl) in ((c + 1) % side, w.0, w.1, e)
+          ],
+        )
 
     neighbor : (k a b c : ℕ) → a < side → b < side → c < side → k ≡ a * (side * side) + (b * side + c) → dim_of (a ∷ b ∷ c ∷ []) + 1 ≡ dim_of (x ∷ y ∷ z ∷ []) → IsNeighbor k
     neighbor k a b c la lb lc e d = record {

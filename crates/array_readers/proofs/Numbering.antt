@@ -21,11 +21,11 @@ use Rattle.array_readers.proofs.Neighbors.{IsNeighbor, round_is, are_neighbors}
 
 -- ---- lists
 
-In-map : (f : ℕ → ℕ) {k : ℕ} {xs : List ℕ} → In k xs → In (f k) (map f xs)
+pub In-map : (f : ℕ → ℕ) {k : ℕ} {xs : List ℕ} → In k xs → In (f k) (map f xs)
 In-map f here = here
 In-map f (there i) = there (In-map f i)
 
-map-In : (f : ℕ → ℕ) {y : ℕ} (xs : List ℕ) → In y (map f xs) → (k : ℕ) × In k xs × (y ≡ f k)
+pub map-In : (f : ℕ → ℕ) {y : ℕ} (xs : List ℕ) → In y (map f xs) → (k : ℕ) × In k xs × (y ≡ f k)
 map-In f [] h = elim h [ ]
 map-In f (x ∷ xs) here = (x, here, refl)
 map-In f (x ∷ xs) (there h) = let r = map-In f xs h in (r.0, there r.1, r.2)
@@ -58,7 +58,7 @@ module _ (side dim : ℕ) (some : 0 < side) where
   abbrev pub spots : List ℕ
   spots = passing (λ p. eqb (dim_at side p) dim) (volume side)
 
-  length-cells : length (cells_in (tuples 3 side) dim) ≡ length (passing (λ p. eqb (dim_at side p) dim) (volume side))
+  pub length-cells : length (cells_in (tuples 3 side) dim) ≡ length (passing (λ p. eqb (dim_at side p) dim) (volume side))
   length-cells = ap length (cells_are side dim some) ∙ length-map (passing (λ p. eqb (dim_at side p) dim) (volume side)) (triple_at side)
 
   cell-at : (i : ℕ) → i < length (passing (λ p. eqb (dim_at side p) dim) (volume side)) → get_or (cells_in (tuples 3 side) dim) i [] ≡ triple_at side (get_or (passing (λ p. eqb (dim_at side p) dim) (volume side)) i 0)

@@ -45,9 +45,10 @@ passing-at p (suc n) k d l e =
     ])
   where
     earlier : length (passing p k) < length (passing p n) → get_or (passing p n) (length (passing p k)) d ≡ k → (length (passing p k) < length (passing p (n + 1))) × (get_or (passing p (n + 1)) (length (passing p k)) d ≡ k)
-    earlier a b =
-        (omega (arith, a, length-passing-more p n),
-        ap (λ (xs : List ℕ). get_or xs (length (passing p k)) d) (passing-more p n) ∙ (get_or_append_left (passing p n) (cond (p n) (n ∷ []) []) d (length (passing p k)) a ∙ b))
+    earlier a b = (
+      omega (arith, a, length-passing-more p n),
+      ap (λ (xs : List ℕ). get_or xs (length (passing p k)) d) (passing-more p n) ∙ (get_or_append_left (passing p n) (cond (p n) (n ∷ []) []) d (length (passing p k)) a ∙ b),
+    )
 
     last : k ≡ n → (length (passing p k) < length (passing p (n + 1))) × (get_or (passing p (n + 1)) (length (passing p k)) d ≡ k)
     last t =

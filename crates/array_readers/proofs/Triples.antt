@@ -121,10 +121,6 @@ place_is side place =
     let b : place % (side * side) / side * side + place % (side * side) % side ≡ place % (side * side) = div-add-mod' (place % (side * side)) side in
     sym (ap (λ (n : ℕ). place / (side * side) * (side * side) + n) b ∙ a)
 
-
-
-
-
 -- two places with the same triple are the same
 pub triple_once : (side j k : ℕ) → triple_at side j ≡ triple_at side k → j ≡ k
 triple_once side j k e =

@@ -76,7 +76,14 @@ pub(crate) fn list_facets(
 {
     facets.clear();
     let rest = place % (side * side);
-    push_pair(numbers, side, side * side, place, place / (side * side), facets)?;
+    push_pair(
+        numbers,
+        side,
+        side * side,
+        place,
+        place / (side * side),
+        facets,
+    )?;
     push_pair(numbers, side, side, place, rest / side, facets)?;
     push_pair(numbers, side, 1, place, rest % side, facets)?;
     sort_once(facets);

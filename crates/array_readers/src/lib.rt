@@ -2,3 +2,9 @@
 #![tactic(auto)]
 
 mod grid;
+mod tori;
+
+pub use tori::torus;
+
+#[cfg(test)]
+mod tests;
