@@ -9,14 +9,15 @@ use Rattle.face_poset.specs.declared.fault.SpaceFault.TheVariants as in_space
 use Rattle.hap_outside.specs.Causes.{Rose, HasCause}
 use Rattle.hap_outside.specs.Stores.{Store, bytes_under}
 use Rattle.hap_outside.specs.Writes.{Writes}
-use Rattle.hap_words.specs.Asked.{Asked}
+use Rattle.hap_words.specs.Asked.{Asked, make}
 use Rattle.hap_cli.specs.declared.outcome.Outcome.{Outcome}
 use Rattle.hap_cli.specs.declared.outcome.Outcome.TheVariants.{Done, Usage, Refused, ReadFault, WriteFault, Memory}
 use Rattle.hap_cli.specs.declared.refusal.Refusal.{Refusal}
 use Rattle.hap_cli.specs.declared.refusal.Refusal.TheVariants.{TooLong, Text, Space, Irregular, Chains}
 use Rattle.hap_cli.specs.Input.{input_name, told_store, OnNamed, OnInput}
+use Rattle.hap_cli.specs.Spaces.{made, fault_in}
 use Rattle.hap_cli.specs.Refusals.{refusal, refusal_status, space_status}
-use Rattle.hap_cli.specs.Outcomes.{status_of, status_for, Answers, Tells, IsEnd, IsStopped, written_outcome}
+use Rattle.hap_cli.specs.Outcomes.{status_of, status_for, Answers, Fails, Tells, IsEnd, IsStopped, written_outcome}
 
 -- what follows of the input under a name
 pub on_named : (name : Option (List ℕ)) (store : Option Store) (P Q : List ℕ → Type 0) → ((bytes : List ℕ) → P bytes → Q bytes) → OnNamed name store P → OnNamed name store Q
@@ -37,6 +38,26 @@ stopped_end asked store read write written stage Memory f h k = k
 stopped_end asked store read write written stage Done f h k = absurd h
 stopped_end asked store read write written stage Usage f h k = h
 stopped_end asked store read write written stage WriteFault f h k = absurd h
+
+-- a command that reads nothing ends so whatever the source has
+pub make_end : (size : ℕ) (modulus : Option ℕ) (store : Option Store) (read write : Type 0) (old new : Option (List ℕ)) (outcome : Outcome)
+    → IsEnd (make size modulus) None ⊥ write old new outcome → IsEnd (make size modulus) store read write old new outcome
+make_end size modulus store read write old new Done h = h
+make_end size modulus store read write old new Usage h = h
+make_end size modulus store read write old new (Refused cause) h = h
+make_end size modulus store read write old new ReadFault h = absurd h.0
+make_end size modulus store read write old new WriteFault h = h
+make_end size modulus store read write old new Memory h = h
+
+-- where its space is refused, it ends so
+pub made_end : (size : ℕ) (modulus : Option ℕ) (write : Type 0) (written : Option (List ℕ)) (outcome : Outcome) → Fails (made size modulus) outcome → Keeps written written
+    → IsEnd (make size modulus) None ⊥ write written written outcome
+made_end size modulus write written (Refused cause) h k = (ap fault_in h, k)
+made_end size modulus write written Memory h k = k
+made_end size modulus write written Done h k = absurd h
+made_end size modulus write written Usage h k = h
+made_end size modulus write written ReadFault h k = absurd h
+made_end size modulus write written WriteFault h k = absurd h
 
 -- a prefix of an answer was written
 pub wrote_front : (asked : Asked) (store : Option Store) (old new : Option (List ℕ)) (stage : List ℕ → Result (List (List (List ℕ))) Refusal) (space : List (List (List ℕ))) (text : List ℕ)

@@ -1,9 +1,8 @@
 // The command `make`.
-ghost use Rattle.std.specs.Prelude.{◌≡◌, ◌≢◌, ◌≤◌, ◌<◌, ◌+◌, true, None, Some, Ok, Option, IfOk, IfErr, OnOk};
+ghost use Rattle.std.specs.Prelude.{◌≡◌, ◌≢◌, ◌≤◌, ◌<◌, ◌+◌, ◌++◌, true, None, Some, Ok, IfOk, IfErr, OnOk};
 ghost use Rattle.small_field.specs.Prime.{mod_ops};
 ghost use Rattle.array_readers.specs.Torus.{torus_of};
 ghost use Rattle.hap_outside.specs.Causes.{Rose, HasCause};
-ghost use Rattle.hap_outside.specs.Stores.{Store};
 ghost use Rattle.hap_outside.specs.Writes.{Writes};
 ghost use Rattle.hap_words.specs.Asked.{make};
 ghost use Rattle.hap_words.specs.Ranges.{is_modulus, is_modulus_if};
@@ -68,11 +67,7 @@ fn write_chains<K: Sink>(out: &mut K, chains: &Chains<'_>) -> Result<(), Failed>
 }
 
 /// Writes how many chains there are, and their Betti numbers.
-fn write_homology<K: Sink>(
-    out: &mut K,
-    chains: &Chains<'_>,
-    numbers: Betti,
-) -> Result<(), Failed>
+fn write_homology<K: Sink>(out: &mut K, chains: &Chains<'_>, numbers: Betti) -> Result<(), Failed>
     ensures bytes { Writes (K.written out.old) (K.written out.new) (chains_text chains.now ++ betti_text numbers) result }
     ensures cause { HasCause (K.faults out.old) (K.faults out.new) result }
 {
@@ -100,7 +95,7 @@ fn write_summary<K: Sink>(
 fn make_text<K: Sink>(alloc: Global, size: u32, out: &mut K) -> Outcome
     requires low { 2 ≤ size }
     requires high { size ≤ 19 }
-    ensures cause { (store : Option Store) (read : Type 0) → IsEnd (make size None) store read
+    ensures cause { IsEnd (make size None) None ⊥
         (Rose (K.faults out.old) (K.faults out.new)) (K.written out.old) (K.written out.new) result }
     ensures write_told { K.faults out.old < K.faults out.new → result ≡ Outcome.WriteFault }
     ensures nothing { result ≢ Outcome.Done → result ≢ Outcome.WriteFault → out.new ≡ out.old }
@@ -112,7 +107,34 @@ fn make_text<K: Sink>(alloc: Global, size: u32, out: &mut K) -> Outcome
     written(space.print(out))
 }
 
-/// Writes the summary of the 3-torus of the size.
+/// Writes the summary of the 3-torus of the size, which has few enough chains.
+fn summarize<K: Sink, L: Ledger>(
+    alloc: Global,
+    size: u32,
+    modulus: u8,
+    space: &Space,
+    chains: &Chains<'_>,
+    out: &mut K,
+    steps: &mut Steps<L>,
+) -> Outcome
+    requires modulus { is_modulus modulus ≡ true }
+    requires space { space.now ≡ torus_of size }
+    requires chains { chains.now ≡ torus_of size }
+    requires few { only_few 2000 (Ok (torus_of size)) ≡ Ok (torus_of size) }
+    ensures cause { IsEnd (make size (Some modulus)) None ⊥
+        (Rose (K.faults out.old) (K.faults out.new)) (K.written out.old) (K.written out.new) result }
+    ensures write_told { K.faults out.old < K.faults out.new → result ≡ Outcome.WriteFault }
+    ensures nothing { result ≢ Outcome.Done → result ≢ Outcome.WriteFault → out.new ≡ out.old }
+    ensures steps { steps.new ≤ steps.old + make_steps size (Some modulus) }
+{
+    let numbers = match betti_modulo(alloc, chains, modulus, steps) {
+        Ok(numbers) => numbers,
+        Err(_) => return Outcome::Memory,
+    };
+    written(write_summary(out, size, space, chains, numbers))
+}
+
+/// Makes the 3-torus of the size and writes its summary.
 fn make_summary<K: Sink, L: Ledger>(
     alloc: Global,
     size: u32,
@@ -123,7 +145,7 @@ fn make_summary<K: Sink, L: Ledger>(
     requires low { 2 ≤ size }
     requires high { size ≤ 19 }
     requires modulus { is_modulus modulus ≡ true }
-    ensures cause { (store : Option Store) (read : Type 0) → IsEnd (make size (Some modulus)) store read
+    ensures cause { IsEnd (make size (Some modulus)) None ⊥
         (Rose (K.faults out.old) (K.faults out.new)) (K.written out.old) (K.written out.new) result }
     ensures write_told { K.faults out.old < K.faults out.new → result ≡ Outcome.WriteFault }
     ensures nothing { result ≢ Outcome.Done → result ≢ Outcome.WriteFault → out.new ≡ out.old }
@@ -137,11 +159,7 @@ fn make_summary<K: Sink, L: Ledger>(
         Ok(chains) => chains,
         Err(outcome) => return outcome,
     };
-    let numbers = match betti_modulo(alloc, &chains, modulus, steps) {
-        Ok(numbers) => numbers,
-        Err(_) => return Outcome::Memory,
-    };
-    written(write_summary(out, size, &space, &chains, numbers))
+    summarize(alloc, size, modulus, &space, &chains, out, steps)
 }
 
 /// Makes the 3-torus of the size, and writes its boundary text, or with a modulus its summary.
@@ -155,7 +173,7 @@ pub fn run_make<K: Sink, L: Ledger>(
     requires low { 2 ≤ size }
     requires high { size ≤ 19 }
     requires modulus { is_modulus_if modulus ≡ true }
-    ensures cause { (store : Option Store) (read : Type 0) → IsEnd (make size modulus) store read
+    ensures cause { IsEnd (make size modulus) None ⊥
         (Rose (K.faults out.old) (K.faults out.new)) (K.written out.old) (K.written out.new) result }
     ensures write_told { K.faults out.old < K.faults out.new → result ≡ Outcome.WriteFault }
     ensures nothing { result ≢ Outcome.Done → result ≢ Outcome.WriteFault → out.new ≡ out.old }
