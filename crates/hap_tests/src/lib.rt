@@ -10,6 +10,8 @@ mod cells;
 #[cfg(test)]
 mod check;
 #[cfg(test)]
+mod make;
+#[cfg(test)]
 mod outside;
 #[cfg(test)]
 mod running;
