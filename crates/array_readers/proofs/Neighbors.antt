@@ -51,6 +51,13 @@ up-even side c s l e =
       | inr q ↦ let t : (c + 1) % side ≡ 0 = q.1 in subst (λ (n : ℕ). is_odd n ≡ false) (sym t) refl
     ]
 
+-- one up from an odd coordinate is an even one, also where it goes round
+abbrev pub Turns : ℕ → Type 0
+Turns side = (c : ℕ) → c < side → is_odd c ≡ true → is_odd ((c + 1) % side) ≡ false
+
+pub even_turns : (side : ℕ) → side % 2 ≡ 0 → Turns side
+even_turns side s c l e = up-even side c s l e
+
 -- ---- the coordinates of a place
 
 module _ (side place : ℕ) (some : 0 < side) (low : place < volume side) where
@@ -152,11 +159,11 @@ module _ (side place : ℕ) (some : 0 < side) (low : place < volume side) where
   in_pair true m n (there (there h)) = elim h [ ]
   in_pair false m n h = elim h [ ]
 
-  module _ (even : side % 2 ≡ 0) where
+  module _ (turns : Turns side) where
     -- each of the two is below the side, and even
     both : (c d : ℕ) → c < side → is_odd c ≡ true → (d ≡ c - 1) ⊎ (d ≡ (c + 1) % side) → (d < side) × (is_odd d ≡ false)
     both c d l o (inl e) = subst (λ (n : ℕ). (n < side) × (is_odd n ≡ false)) (sym e) (omega (arith, l), below-even c o)
-    both c d l o (inr e) = subst (λ (n : ℕ). (n < side) × (is_odd n ≡ false)) (sym e) (up-below side c l, up-even side c even l o)
+    both c d l o (inr e) = subst (λ (n : ℕ). (n < side) × (is_odd n ≡ false)) (sym e) (up-below side c l, turns c l o)
 
     -- a facet in one direction
     moved_there : (stride c : ℕ) {k : ℕ} → c < side → In k (pair_places side stride place c) → (is_odd c ≡ true) × ((d : ℕ) × (d < side) × (is_odd d ≡ false) × (k ≡ moved stride place c d))

@@ -14,7 +14,7 @@ use Rattle.array_readers.specs.Torus.{facets_round, torus_of}
 use Rattle.array_readers.specs.Grid.{volume, triple_at, dim_at, number_at, pair_places, facet_places, moved, facets_at, cells_before, stage_layer, stage}
 use Rattle.array_readers.proofs.Places.{passing, passing-more}
 use Rattle.array_readers.proofs.Triples.{cells_are, map_twice}
-use Rattle.array_readers.proofs.Neighbors.{IsNeighbor, are_neighbors, dim-cons}
+use Rattle.array_readers.proofs.Neighbors.{IsNeighbor, Turns, are_neighbors, dim-cons}
 use Rattle.array_readers.proofs.Numbering.{rises, to_facet, from_facet, length-cells, map-In, In-map}
 
 -- a fact at each dimension
@@ -132,12 +132,12 @@ some_of a b c d e f false true bz h = (c, here)
 some_of a b c d e f false false true h = (e, here)
 some_of a b c d e f false false false h = absurd (omega arith)
 
-module _ (side place : ℕ) (some : 0 < side) (low : place < volume side) (even : side % 2 ≡ 0) where
+module _ (side place : ℕ) (some : 0 < side) (low : place < volume side) (turns : Turns side) where
   -- a vertex has no facet
   pub no_facets : dim_at side place ≡ 0 → facets_at side (dim_at side place) place ≡ []
   no_facets e =
       none_in (facets_at side (dim_at side place) place)
-      (λ n i. let r = map-In (number_at side) (facet_places side place) (from_facet side place some low even n i) in omega (arith, (are_neighbors side place some low even r.0 r.1).dim, e))
+      (λ n i. let r = map-In (number_at side) (facet_places side place) (from_facet side place some low turns n i) in omega (arith, (are_neighbors side place some low turns r.0 r.1).dim, e))
 
   -- another cell has some
   first_place : 1 ≤ dim_at side place → (k : ℕ) × In k (facet_places side place)
@@ -151,9 +151,9 @@ module _ (side place : ℕ) (some : 0 < side) (low : place < volume side) (even 
   pub cell_facets : 1 ≤ dim_at side place → IsCell (length (cells_in (tuples 3 side) (dim_at side place - 1))) (facets_at side (dim_at side place) place)
   cell_facets h =
       let f = first_place h in
-      let i = In-at (to_facet side place some low even (number_at side f.0) (In-map (number_at side) f.1)) in
+      let i = In-at (to_facet side place some low turns (number_at side f.0) (In-map (number_at side) f.1)) in
       record {
-        rises = rises side place some low even;
+        rises = rises side place some low turns;
         within = λ k d l. upto-In (length (cells_in (tuples 3 side) (dim_at side place - 1))) (get_or (facets_at side (dim_at side place) place) k d)
             (In-inside (λ n. list_any (same (get_or (cells_in (tuples 3 side) (dim_at side place - 1)) (n - 1) [])) (facets_round side (triple_at side place))) (upto (length (cells_in (tuples 3 side) (dim_at side place - 1)))) (at-In (facets_at side (dim_at side place) place) k d l));
         some = omega (arith, i.1);

@@ -4,6 +4,7 @@ use Rattle.face_poset.specs.declared.builder.BuildFault.{BuildFault}
 use Rattle.face_poset.specs.Poset.{IsCell, layer, count}
 use Rattle.array_readers.specs.Tuples.{tuples, cells_in}
 use Rattle.array_readers.specs.Grid.{volume, dim_at, facets_at, stage}
+use Rattle.array_readers.proofs.Neighbors.{even_turns}
 use Rattle.array_readers.proofs.Stages.{stage-more, stage-idle, stage-below, no_facets, cell_facets}
 use Rattle.array_readers.proofs.tori.add_cells.Goals as goal
 use Rattle.array_readers.proofs.tori.add_cells.Goals.{then-dimension-dim+in_ok-list_facets+in_ok-map_err, else-dimension-dim}
@@ -11,7 +12,7 @@ use Rattle.array_readers.proofs.tori.add_cells.Goals.{then-dimension-dim+in_ok-l
 pub add-requires-clause-vertex : goal.add-requires-clause-vertex
 add-requires-clause-vertex c e =
     c.deref.ensures.value
-    ∙ (c.in_ok-list_facets.ensures ∙ no_facets c.args.side c.loop-place.place (omega (arith, c.requires.low)) c.loop-place-test.true c.requires.even (sym c.dimension.ensures.dim ∙ (c.if-dimension-dim.true ∙ e)))
+    ∙ (c.in_ok-list_facets.ensures ∙ no_facets c.args.side c.loop-place.place (omega (arith, c.requires.low)) c.loop-place-test.true (even_turns c.args.side c.requires.even) (sym c.dimension.ensures.dim ∙ (c.if-dimension-dim.true ∙ e)))
 
 -- the facets are those of a cell over the builder
 facets_fit : (side dim place : ℕ) (builder : List (List (List ℕ))) (facets : List ℕ) → 2 ≤ side → place < volume side → side % 2 ≡ 0 → dim_at side place ≡ dim → dim ≤ 3 → 1 ≤ dim → builder ≡ stage side dim place
@@ -20,7 +21,7 @@ facets_fit side dim place builder facets two low even e most some is same =
     let n : count builder (dim - 1) ≡ length (cells_in (tuples 3 side) (dim - 1)) = ap (λ (b : List (List (List ℕ))). count b (dim - 1)) is ∙ stage-below side dim place (omega (arith, two)) most some in
     subst (λ (k : ℕ). IsCell k facets) (sym n)
     (subst (IsCell (length (cells_in (tuples 3 side) (dim - 1)))) (sym same)
-    (subst (λ (d : ℕ). IsCell (length (cells_in (tuples 3 side) (d - 1))) (facets_at side (dim_at side place) place)) e (cell_facets side place (omega (arith, two)) low even (omega (arith, e, some)))))
+    (subst (λ (d : ℕ). IsCell (length (cells_in (tuples 3 side) (d - 1))) (facets_at side (dim_at side place) place)) e (cell_facets side place (omega (arith, two)) low (even_turns side even) (omega (arith, e, some)))))
 
 pub add-requires-clause-cell : goal.add-requires-clause-cell
 add-requires-clause-cell c some =
