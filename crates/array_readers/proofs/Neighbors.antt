@@ -1,5 +1,5 @@
 -- The places of the facets of a triple.
-use Rattle.std.proofs.Common.{◌≡◌, ◌⊎◌, inl, inr, ℕ, zero, suc, ◌+◌, ◌-◌, ◌*◌, ◌/◌, ◌%◌, ◌<◌, ◌≤◌, List, [], ◌∷◌, ◌++◌, Bool, true, false, cond, eqb, filter, map, length, refl, ap, sym, ◌∙◌, subst, arith}
+use Rattle.std.proofs.Common.{◌≡◌, ◌⊎◌, inl, inr, ℕ, suc, ◌+◌, ◌-◌, ◌*◌, ◌/◌, ◌%◌, ◌<◌, ◌≤◌, List, [], ◌∷◌, ◌++◌, Bool, true, false, cond, filter, map, length, refl, ap, sym, ◌∙◌, subst, arith}
 use Rattle.std.proofs.Math.Nat.{mod-eq_of_lt, mod_self, mul_comm, mul-le-mul_right}
 use Rattle.std.proofs.lemmas.Bool.{eqb-true, cases_lt}
 use Rattle.std.proofs.lemmas.Nat.{mod_below, div_below}
@@ -101,13 +101,13 @@ module _ (side place : ℕ) (some : 0 < side) (low : place < volume side) where
 
   -- ---- their triples
 
-  at-x : (c : ℕ) → triple_at side (moved (side * side) place x c) ≡ c ∷ y ∷ z ∷ []
+  pub at-x : (c : ℕ) → triple_at side (moved (side * side) place x c) ≡ c ∷ y ∷ z ∷ []
   at-x c = ap (triple_at side) (moved-x c) ∙ triple_of side c y z y-below z-below
 
-  at-y : (c : ℕ) → c < side → triple_at side (moved side place y c) ≡ x ∷ c ∷ z ∷ []
+  pub at-y : (c : ℕ) → c < side → triple_at side (moved side place y c) ≡ x ∷ c ∷ z ∷ []
   at-y c l = ap (triple_at side) (moved-y c) ∙ triple_of side x c z l z-below
 
-  at-z : (c : ℕ) → c < side → triple_at side (moved 1 place z c) ≡ x ∷ y ∷ c ∷ []
+  pub at-z : (c : ℕ) → c < side → triple_at side (moved 1 place z c) ≡ x ∷ y ∷ c ∷ []
   at-z c l = ap (triple_at side) (moved-z c) ∙ triple_of side x y c y-below l
 
   pairs : (stride c : ℕ) (T : ℕ → List ℕ) → c < side → ((d : ℕ) → d < side → triple_at side (moved stride place c d) ≡ T d)
@@ -150,7 +150,7 @@ module _ (side place : ℕ) (some : 0 < side) (low : place < volume side) where
     pub below : k < volume side
     pub dim : dim_at side k + 1 ≡ dim_at side place
 
-  dims : (a b c : ℕ) → dim_of (a ∷ b ∷ c ∷ []) ≡ cond (is_odd a) 1 0 + (cond (is_odd b) 1 0 + (cond (is_odd c) 1 0 + 0))
+  pub dims : (a b c : ℕ) → dim_of (a ∷ b ∷ c ∷ []) ≡ cond (is_odd a) 1 0 + (cond (is_odd b) 1 0 + (cond (is_odd c) 1 0 + 0))
   dims a b c = dim-cons a (b ∷ c ∷ []) ∙ ap (λ (n : ℕ). cond (is_odd a) 1 0 + n) (dim-cons b (c ∷ []) ∙ ap (λ (n : ℕ). cond (is_odd b) 1 0 + n) (dim-cons c []))
 
   in_pair : (b : Bool) (m n : ℕ) {k : ℕ} → In k (cond b (m ∷ n ∷ []) []) → (b ≡ true) × ((k ≡ m) ⊎ (k ≡ n))

@@ -1,18 +1,17 @@
 -- The numbers of the facets of a triple.
-use Rattle.std.proofs.Common.{◌≡◌, ◌⊎◌, inl, inr, ℕ, zero, suc, ◌+◌, ◌-◌, ◌*◌, ◌%◌, ◌<◌, ◌≤◌, List, [], ◌∷◌, ◌++◌, Bool, true, false, cond, ◌||◌, eqb, filter, map, length, get_or, Contains, refl, ap, sym, ◌∙◌, subst, arith}
+use Rattle.std.proofs.Common.{◌≡◌, inl, inr, ℕ, ◌+◌, ◌-◌, ◌<◌, ◌≤◌, List, [], ◌∷◌, Bool, ◌||◌, eqb, map, length, get_or, Contains, refl, ap, sym, ◌∙◌, subst, arith}
 use Rattle.std.specs.List.{range_with_len, list_any}
 use Rattle.std.specs.List.Sorted.{IsStrictlyIncreasing}
-use Rattle.std.proofs.lemmas.Bool.{eqb-true, eq-eqb, false≢true, cases_lt}
-use Rattle.std.proofs.lemmas.List.{get_or-map, length-map, get_or_default}
+use Rattle.std.proofs.lemmas.Bool.{eq-eqb, cases_lt}
+use Rattle.std.proofs.lemmas.List.{get_or-map, length-map}
 use Rattle.std.proofs.lemmas.List.Kept.{IsStrictlyIncreasing-filter, AllPairs-from_increasing}
 use Rattle.std.proofs.lemmas.List.FromFn.{get_or-range_with_len, length-range_with_len, get_or-map-range_with_len}
 use Rattle.face_poset.specs.Words.{upto, holds}
-use Rattle.face_poset.specs.Poset.{IsCell}
 use Rattle.face_poset.proofs.Members.{same_increasing, increasing-upto, holds-from, Contains-from_holds}
-use Rattle.regular_check.proofs.Members.{In, here, there, In-filter, In-inside, filter-In, any-In, any-some, holds-In, In-holds, In-at, at-In, In-left, In-right}
+use Rattle.regular_check.proofs.Members.{In, here, there, In-filter, In-inside, filter-In, any-In, any-some, holds-In, In-holds}
 use Rattle.regular_check.proofs.Passing.{same_bool}
 use Rattle.regular_check.proofs.Joined.{In-upto, upto-In}
-use Rattle.array_readers.specs.Tuples.{tuples, same, dim_of, is_odd, cells_in, numbers_in}
+use Rattle.array_readers.specs.Tuples.{tuples, same, cells_in}
 use Rattle.array_readers.specs.Torus.{facets_round}
 use Rattle.array_readers.specs.Grid.{volume, triple_at, dim_at, number_at, facet_places, facets_at}
 use Rattle.array_readers.proofs.Places.{passing, passing-at}
@@ -61,7 +60,7 @@ module _ (side dim : ℕ) (some : 0 < side) where
   pub length-cells : length (cells_in (tuples 3 side) dim) ≡ length (passing (λ p. eqb (dim_at side p) dim) (volume side))
   length-cells = ap length (cells_are side dim some) ∙ length-map (passing (λ p. eqb (dim_at side p) dim) (volume side)) (triple_at side)
 
-  cell-at : (i : ℕ) → i < length (passing (λ p. eqb (dim_at side p) dim) (volume side)) → get_or (cells_in (tuples 3 side) dim) i [] ≡ triple_at side (get_or (passing (λ p. eqb (dim_at side p) dim) (volume side)) i 0)
+  pub cell-at : (i : ℕ) → i < length (passing (λ p. eqb (dim_at side p) dim) (volume side)) → get_or (cells_in (tuples 3 side) dim) i [] ≡ triple_at side (get_or (passing (λ p. eqb (dim_at side p) dim) (volume side)) i 0)
   cell-at i l = ap (λ (ts : List (List ℕ)). get_or ts i []) (cells_are side dim some) ∙ get_or-map (triple_at side) spots i 0 [] l
 
   -- the number of a triple of the dimension leads to it

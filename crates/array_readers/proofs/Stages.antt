@@ -1,24 +1,23 @@
 -- The torus in the making.
-use Rattle.std.proofs.Common.{◌≡◌, ◌≢◌, inl, inr, ℕ, zero, suc, ◌+◌, ◌-◌, ◌*◌, ◌/◌, ◌%◌, ◌<◌, ◌≤◌, List, [], ◌∷◌, ◌++◌, Bool, true, false, cond, eqb, ltb, filter, map, length, get_or, set, refl, ap, sym, ◌∙◌, subst, arith}
-use Rattle.std.specs.List.{range_with_len, list_any}
-use Rattle.std.proofs.Math.Nat.{mul_comm}
+use Rattle.std.proofs.Common.{◌≡◌, ◌≢◌, ℕ, zero, suc, ◌+◌, ◌-◌, ◌*◌, ◌/◌, ◌%◌, ◌<◌, ◌≤◌, List, [], ◌∷◌, ◌++◌, Bool, true, false, cond, eqb, map, length, get_or, set, refl, ap, sym, ◌∙◌, arith}
+use Rattle.std.specs.List.{list_any}
 use Rattle.std.proofs.lemmas.Bool.{eq-eqb}
 use Rattle.std.proofs.lemmas.List.{map-append, append-nil, length-map}
 use Rattle.face_poset.specs.Words.{upto}
 use Rattle.face_poset.specs.Poset.{layer, count, IsCell}
 use Rattle.face_poset.proofs.Members.{differ}
-use Rattle.regular_check.proofs.Members.{In, here, there, In-inside, In-left, In-right, In-at, at-In}
+use Rattle.regular_check.proofs.Members.{In, here, In-inside, In-at, at-In}
 use Rattle.regular_check.proofs.Joined.{upto-In}
-use Rattle.array_readers.specs.Tuples.{tuples, same, dim_of, is_odd, cells_in, numbers_in, layer_of, space_of}
-use Rattle.array_readers.specs.Torus.{facets_round, torus_of}
-use Rattle.array_readers.specs.Grid.{volume, triple_at, dim_at, number_at, pair_places, facet_places, moved, facets_at, cells_before, stage_layer, stage}
+use Rattle.array_readers.specs.Tuples.{tuples, same, is_odd, cells_in, numbers_in, layer_of, space_of}
+use Rattle.array_readers.specs.Torus.{facets_round}
+use Rattle.array_readers.specs.Grid.{volume, triple_at, dim_at, number_at, facet_places, moved, facets_at, cells_before, stage}
 use Rattle.array_readers.proofs.Places.{passing, passing-more}
 use Rattle.array_readers.proofs.Triples.{cells_are, map_twice}
-use Rattle.array_readers.proofs.Neighbors.{IsNeighbor, Turns, are_neighbors, dim-cons}
+use Rattle.array_readers.proofs.Neighbors.{Turns, are_neighbors, dim-cons}
 use Rattle.array_readers.proofs.Numbering.{rises, to_facet, from_facet, length-cells, map-In, In-map}
 
 -- a fact at each dimension
-by_dim : (P : ℕ → Type 0) → P 0 → P 1 → P 2 → P 3 → (d : ℕ) → d ≤ 3 → P d
+pub by_dim : (P : ℕ → Type 0) → P 0 → P 1 → P 2 → P 3 → (d : ℕ) → d ≤ 3 → P d
 by_dim P a b c e zero l = a
 by_dim P a b c e (suc zero) l = b
 by_dim P a b c e (suc (suc zero)) l = c
@@ -107,7 +106,7 @@ module _ (side : ℕ) where
       by_dim (λ d. 1 ≤ d → count (stage side d place) (d - 1) ≡ length (full (d - 1))) (λ h. absurd (omega arith)) (λ h. refl) (λ h. refl) (λ h. refl) dim l m
       ∙ (length-map (passing (λ p. eqb (dim_at side p) (dim - 1)) (volume side)) (facets_at side (dim - 1)) ∙ sym (length-cells side (dim - 1) some))
 
-  layers : (dim : ℕ) → 0 < side → cells_before side dim (volume side) ≡ map (λ t. numbers_in (cells_in (tuples 3 side) (dim - 1)) (facets_round side t)) (cells_in (tuples 3 side) dim)
+  pub layers : (dim : ℕ) → 0 < side → cells_before side dim (volume side) ≡ map (λ t. numbers_in (cells_in (tuples 3 side) (dim - 1)) (facets_round side t)) (cells_in (tuples 3 side) dim)
   layers dim some =
       sym (ap (map (λ t. numbers_in (cells_in (tuples 3 side) (dim - 1)) (facets_round side t))) (cells_are side dim some)
       ∙ map_twice (λ t. numbers_in (cells_in (tuples 3 side) (dim - 1)) (facets_round side t)) (triple_at side) (passing (λ p. eqb (dim_at side p) dim) (volume side)))

@@ -1,6 +1,7 @@
 // The 3-torus.
 ghost use Rattle.std.specs.Prelude.{◌≡◌, ◌+◌, ◌*◌, ◌%◌, ◌≤◌, map, IfOk, OnOk};
 ghost use Rattle.std.specs.List.{range_with_len};
+ghost use Rattle.regular_check.specs.Rules.{IsRegular};
 ghost use Rattle.array_readers.specs.Torus.{torus_of, HasTorusCounts};
 ghost use Rattle.array_readers.specs.Grid.{volume, number_at, stage};
 
@@ -38,12 +39,13 @@ fn add_cells(
 /// by c - 1, or by c + 1 modulo twice the size. The cells of one dimension are numbered from 1 in
 /// lexicographic order.
 ///
-/// The size is 2 to 19. The only error is want of memory.
+/// The size is 2 to 19. The space is regular. The only error is want of memory.
 pub fn torus(alloc: Global, size: u32) -> Result<Space, AllocError>
     requires low { 2 ≤ size }
     requires high { size ≤ 19 }
     ensures space { IfOk result (λ space. space ≡ torus_of size) }
     ensures counts { IfOk result (HasTorusCounts size) }
+    ensures regular { IfOk result IsRegular }
 {
     let side = size as usize * 2;
     let numbers = number_all(alloc, side)?;
