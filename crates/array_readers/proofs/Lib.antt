@@ -8,3 +8,4 @@ pub mod Cube
 pub mod Spots
 pub mod Copies
 pub mod Regularity
+pub mod Rooms

@@ -1,13 +1,30 @@
 // The 3-torus.
-ghost use Rattle.std.specs.Prelude.{◌≡◌, ◌+◌, ◌*◌, ◌%◌, ◌≤◌, map, IfOk, OnOk};
+ghost use Rattle.std.specs.Prelude.{◌≡◌, ℕ, ◌+◌, ◌-◌, ◌*◌, ◌%◌, ◌≤◌, ◌<◌, ◌∷◌, ◌++◌, [], map, slice_set, IfOk, OnOk};
+ghost use Rattle.face_poset.specs.Poset.{layer, count, cell_count, IsCell};
 ghost use Rattle.std.specs.List.{range_with_len};
 ghost use Rattle.regular_check.specs.Rules.{IsRegular};
 ghost use Rattle.array_readers.specs.Torus.{torus_of, HasTorusCounts};
 ghost use Rattle.array_readers.specs.Grid.{volume, number_at, stage};
 
 use crate::grid::{dimension, list_facets, number_all};
-use face_poset::{Builder, Space};
+use face_poset::{BuildFault, Builder, Space};
 use std::alloc::{AllocError, Global};
+
+/// Adds a cell where fewer than 60,000 stand.
+fn add_cell(builder: &mut Builder, dim: u8, facets: &[u32]) -> Result<(), AllocError>
+    requires dim { dim ≤ 3 }
+    requires room { cell_count builder.old < 60000 }
+    requires last { (above : ℕ) → dim < above → count builder.old above ≡ 0 }
+    requires vertex { dim ≡ 0 → facets.now ≡ [] }
+    requires cell { 1 ≤ dim → IsCell (count builder.old (dim - 1)) facets.now }
+    ensures { OnOk result (builder.new ≡ slice_set builder.old dim (layer builder.old dim ++ facets.now ∷ [])) }
+{
+    match builder.add(dim, facets) {
+        Ok(_number) => Ok(()),
+        Err(BuildFault::Memory) => Err(AllocError),
+        Err(BuildFault::TooManyCells) => unreachable!(),
+    }
+}
 
 /// Adds the cells of a dimension, where all cells of lower dimensions stand.
 fn add_cells(
@@ -28,7 +45,7 @@ fn add_cells(
     for place in 0..side * side * side {
         if dimension(side, place) == dim {
             list_facets(numbers, side, place, facets)?;
-            builder.add(dim, facets).map_err(|_| AllocError)?;
+            add_cell(builder, dim, facets)?;
         }
     }
     Ok(())
