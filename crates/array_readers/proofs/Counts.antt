@@ -1,15 +1,14 @@
 -- How many tuples of each dimension there are.
-use Rattle.std.proofs.Common.{◌≡◌, ℕ, zero, suc, ◌+◌, ◌-◌, ◌*◌, ◌%◌, ◌^◌, ◌<◌, ◌≤◌, List, [], ◌∷◌, ◌++◌, Bool, true, false, cond, eqb, filter, map, length, refl, ap, sym, ◌∙◌, subst, arith}
+use Rattle.std.proofs.Common.{◌≡◌, ℕ, zero, suc, ◌+◌, ◌-◌, ◌*◌, ◌%◌, ◌^◌, ◌≤◌, List, [], ◌∷◌, ◌++◌, Bool, true, false, cond, eqb, filter, map, length, refl, ap, ◌∙◌, arith}
 use Rattle.std.specs.List.{range_with_len, flat_map}
 use Rattle.std.proofs.Math.Nat.{mul-le-mul_right, pow-suc, pow-zero}
 use Rattle.std.proofs.lemmas.Bool.{eq-eqb, eqb-true}
 use Rattle.std.proofs.lemmas.List.{length-append, length-map}
 use Rattle.std.proofs.lemmas.List.Concat.{flat_map-append}
 use Rattle.std.proofs.lemmas.List.Elements.{filter-append}
-use Rattle.face_poset.specs.Poset.{count}
 use Rattle.face_poset.proofs.Members.{differ}
 use Rattle.regular_check.proofs.Passing.{same_bool}
-use Rattle.array_readers.specs.Tuples.{tuples, dim_of, is_odd, cells_in, numbers_in, space_of}
+use Rattle.array_readers.specs.Tuples.{tuples, dim_of, is_odd, cells_in, numbers_in}
 use Rattle.array_readers.specs.Torus.{facets_round, torus_of, HasTorusCounts}
 use Rattle.array_readers.proofs.Places.{range-more}
 use Rattle.array_readers.proofs.Neighbors.{dim-cons, even-is}

@@ -4,3 +4,8 @@ pub mod Neighbors
 pub mod Numbering
 pub mod Stages
 pub mod Counts
+pub mod Cube
+pub mod Spots
+pub mod Copies
+pub mod Regularity
+pub mod Rooms

@@ -1,5 +1,5 @@
 -- The places of the facets of a triple.
-use Rattle.std.proofs.Common.{◌≡◌, ◌⊎◌, inl, inr, ℕ, zero, suc, ◌+◌, ◌-◌, ◌*◌, ◌/◌, ◌%◌, ◌<◌, ◌≤◌, List, [], ◌∷◌, ◌++◌, Bool, true, false, cond, eqb, filter, map, length, refl, ap, sym, ◌∙◌, subst, arith}
+use Rattle.std.proofs.Common.{◌≡◌, ◌⊎◌, inl, inr, ℕ, suc, ◌+◌, ◌-◌, ◌*◌, ◌/◌, ◌%◌, ◌<◌, ◌≤◌, List, [], ◌∷◌, ◌++◌, Bool, true, false, cond, filter, map, length, refl, ap, sym, ◌∙◌, subst, arith}
 use Rattle.std.proofs.Math.Nat.{mod-eq_of_lt, mod_self, mul_comm, mul-le-mul_right}
 use Rattle.std.proofs.lemmas.Bool.{eqb-true, cases_lt}
 use Rattle.std.proofs.lemmas.Nat.{mod_below, div_below}
@@ -51,6 +51,13 @@ up-even side c s l e =
       | inr q ↦ let t : (c + 1) % side ≡ 0 = q.1 in subst (λ (n : ℕ). is_odd n ≡ false) (sym t) refl
     ]
 
+-- one up from an odd coordinate is an even one, also where it goes round
+abbrev pub Turns : ℕ → Type 0
+Turns side = (c : ℕ) → c < side → is_odd c ≡ true → is_odd ((c + 1) % side) ≡ false
+
+pub even_turns : (side : ℕ) → side % 2 ≡ 0 → Turns side
+even_turns side s c l e = up-even side c s l e
+
 -- ---- the coordinates of a place
 
 module _ (side place : ℕ) (some : 0 < side) (low : place < volume side) where
@@ -94,13 +101,13 @@ module _ (side place : ℕ) (some : 0 < side) (low : place < volume side) where
 
   -- ---- their triples
 
-  at-x : (c : ℕ) → triple_at side (moved (side * side) place x c) ≡ c ∷ y ∷ z ∷ []
+  pub at-x : (c : ℕ) → triple_at side (moved (side * side) place x c) ≡ c ∷ y ∷ z ∷ []
   at-x c = ap (triple_at side) (moved-x c) ∙ triple_of side c y z y-below z-below
 
-  at-y : (c : ℕ) → c < side → triple_at side (moved side place y c) ≡ x ∷ c ∷ z ∷ []
+  pub at-y : (c : ℕ) → c < side → triple_at side (moved side place y c) ≡ x ∷ c ∷ z ∷ []
   at-y c l = ap (triple_at side) (moved-y c) ∙ triple_of side x c z l z-below
 
-  at-z : (c : ℕ) → c < side → triple_at side (moved 1 place z c) ≡ x ∷ y ∷ c ∷ []
+  pub at-z : (c : ℕ) → c < side → triple_at side (moved 1 place z c) ≡ x ∷ y ∷ c ∷ []
   at-z c l = ap (triple_at side) (moved-z c) ∙ triple_of side x y c y-below l
 
   pairs : (stride c : ℕ) (T : ℕ → List ℕ) → c < side → ((d : ℕ) → d < side → triple_at side (moved stride place c d) ≡ T d)
@@ -143,7 +150,7 @@ module _ (side place : ℕ) (some : 0 < side) (low : place < volume side) where
     pub below : k < volume side
     pub dim : dim_at side k + 1 ≡ dim_at side place
 
-  dims : (a b c : ℕ) → dim_of (a ∷ b ∷ c ∷ []) ≡ cond (is_odd a) 1 0 + (cond (is_odd b) 1 0 + (cond (is_odd c) 1 0 + 0))
+  pub dims : (a b c : ℕ) → dim_of (a ∷ b ∷ c ∷ []) ≡ cond (is_odd a) 1 0 + (cond (is_odd b) 1 0 + (cond (is_odd c) 1 0 + 0))
   dims a b c = dim-cons a (b ∷ c ∷ []) ∙ ap (λ (n : ℕ). cond (is_odd a) 1 0 + n) (dim-cons b (c ∷ []) ∙ ap (λ (n : ℕ). cond (is_odd b) 1 0 + n) (dim-cons c []))
 
   in_pair : (b : Bool) (m n : ℕ) {k : ℕ} → In k (cond b (m ∷ n ∷ []) []) → (b ≡ true) × ((k ≡ m) ⊎ (k ≡ n))
@@ -152,11 +159,11 @@ module _ (side place : ℕ) (some : 0 < side) (low : place < volume side) where
   in_pair true m n (there (there h)) = elim h [ ]
   in_pair false m n h = elim h [ ]
 
-  module _ (even : side % 2 ≡ 0) where
+  module _ (turns : Turns side) where
     -- each of the two is below the side, and even
     both : (c d : ℕ) → c < side → is_odd c ≡ true → (d ≡ c - 1) ⊎ (d ≡ (c + 1) % side) → (d < side) × (is_odd d ≡ false)
     both c d l o (inl e) = subst (λ (n : ℕ). (n < side) × (is_odd n ≡ false)) (sym e) (omega (arith, l), below-even c o)
-    both c d l o (inr e) = subst (λ (n : ℕ). (n < side) × (is_odd n ≡ false)) (sym e) (up-below side c l, up-even side c even l o)
+    both c d l o (inr e) = subst (λ (n : ℕ). (n < side) × (is_odd n ≡ false)) (sym e) (up-below side c l, turns c l o)
 
     -- a facet in one direction
     moved_there : (stride c : ℕ) {k : ℕ} → c < side → In k (pair_places side stride place c) → (is_odd c ≡ true) × ((d : ℕ) × (d < side) × (is_odd d ≡ false) × (k ≡ moved stride place c d))

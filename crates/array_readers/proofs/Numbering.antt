@@ -1,23 +1,22 @@
 -- The numbers of the facets of a triple.
-use Rattle.std.proofs.Common.{◌≡◌, ◌⊎◌, inl, inr, ℕ, zero, suc, ◌+◌, ◌-◌, ◌*◌, ◌%◌, ◌<◌, ◌≤◌, List, [], ◌∷◌, ◌++◌, Bool, true, false, cond, ◌||◌, eqb, filter, map, length, get_or, Contains, refl, ap, sym, ◌∙◌, subst, arith}
+use Rattle.std.proofs.Common.{◌≡◌, inl, inr, ℕ, ◌+◌, ◌-◌, ◌<◌, ◌≤◌, List, [], ◌∷◌, Bool, ◌||◌, eqb, map, length, get_or, Contains, refl, ap, sym, ◌∙◌, subst, arith}
 use Rattle.std.specs.List.{range_with_len, list_any}
 use Rattle.std.specs.List.Sorted.{IsStrictlyIncreasing}
-use Rattle.std.proofs.lemmas.Bool.{eqb-true, eq-eqb, false≢true, cases_lt}
-use Rattle.std.proofs.lemmas.List.{get_or-map, length-map, get_or_default}
+use Rattle.std.proofs.lemmas.Bool.{eq-eqb, cases_lt}
+use Rattle.std.proofs.lemmas.List.{get_or-map, length-map}
 use Rattle.std.proofs.lemmas.List.Kept.{IsStrictlyIncreasing-filter, AllPairs-from_increasing}
 use Rattle.std.proofs.lemmas.List.FromFn.{get_or-range_with_len, length-range_with_len, get_or-map-range_with_len}
 use Rattle.face_poset.specs.Words.{upto, holds}
-use Rattle.face_poset.specs.Poset.{IsCell}
 use Rattle.face_poset.proofs.Members.{same_increasing, increasing-upto, holds-from, Contains-from_holds}
-use Rattle.regular_check.proofs.Members.{In, here, there, In-filter, In-inside, filter-In, any-In, any-some, holds-In, In-holds, In-at, at-In, In-left, In-right}
+use Rattle.regular_check.proofs.Members.{In, here, there, In-filter, In-inside, filter-In, any-In, any-some, holds-In, In-holds}
 use Rattle.regular_check.proofs.Passing.{same_bool}
 use Rattle.regular_check.proofs.Joined.{In-upto, upto-In}
-use Rattle.array_readers.specs.Tuples.{tuples, same, dim_of, is_odd, cells_in, numbers_in}
+use Rattle.array_readers.specs.Tuples.{tuples, same, cells_in}
 use Rattle.array_readers.specs.Torus.{facets_round}
 use Rattle.array_readers.specs.Grid.{volume, triple_at, dim_at, number_at, facet_places, facets_at}
 use Rattle.array_readers.proofs.Places.{passing, passing-at}
 use Rattle.array_readers.proofs.Triples.{cells_are, triple_once, same-eq, eq-same}
-use Rattle.array_readers.proofs.Neighbors.{IsNeighbor, round_is, are_neighbors}
+use Rattle.array_readers.proofs.Neighbors.{IsNeighbor, Turns, round_is, are_neighbors}
 
 -- ---- lists
 
@@ -61,7 +60,7 @@ module _ (side dim : ℕ) (some : 0 < side) where
   pub length-cells : length (cells_in (tuples 3 side) dim) ≡ length (passing (λ p. eqb (dim_at side p) dim) (volume side))
   length-cells = ap length (cells_are side dim some) ∙ length-map (passing (λ p. eqb (dim_at side p) dim) (volume side)) (triple_at side)
 
-  cell-at : (i : ℕ) → i < length (passing (λ p. eqb (dim_at side p) dim) (volume side)) → get_or (cells_in (tuples 3 side) dim) i [] ≡ triple_at side (get_or (passing (λ p. eqb (dim_at side p) dim) (volume side)) i 0)
+  pub cell-at : (i : ℕ) → i < length (passing (λ p. eqb (dim_at side p) dim) (volume side)) → get_or (cells_in (tuples 3 side) dim) i [] ≡ triple_at side (get_or (passing (λ p. eqb (dim_at side p) dim) (volume side)) i 0)
   cell-at i l = ap (λ (ts : List (List ℕ)). get_or ts i []) (cells_are side dim some) ∙ get_or-map (triple_at side) spots i 0 [] l
 
   -- the number of a triple of the dimension leads to it
@@ -89,7 +88,7 @@ module _ (side dim : ℕ) (some : 0 < side) where
 
 -- ---- the facets of a triple
 
-module _ (side place : ℕ) (some : 0 < side) (low : place < volume side) (even : side % 2 ≡ 0) where
+module _ (side place : ℕ) (some : 0 < side) (low : place < volume side) (turns : Turns side) where
   abbrev below : List (List ℕ)
   below = cells_in (tuples 3 side) (dim_at side place - 1)
 
@@ -97,7 +96,7 @@ module _ (side place : ℕ) (some : 0 < side) (low : place < volume side) (even 
   has n = list_any (same (get_or (cells_in (tuples 3 side) (dim_at side place - 1)) (n - 1) [])) (facets_round side (triple_at side place))
 
   neighbor : (k : ℕ) → In k (facet_places side place) → IsNeighbor side place some low k
-  neighbor k i = are_neighbors side place some low even k i
+  neighbor k i = are_neighbors side place some low turns k i
 
   -- the test of a number, over places
   has-places : (n : ℕ) → has n ≡ list_any (λ k. same (get_or (cells_in (tuples 3 side) (dim_at side place - 1)) (n - 1) []) (triple_at side k)) (facet_places side place)
@@ -140,16 +139,16 @@ map_same_In f g [] h = refl
 map_same_In f g (x ∷ xs) h = ap (λ (y : ℕ). y ∷ map f xs) (h x here) ∙ ap (λ (ys : List ℕ). g x ∷ ys) (map_same_In f g xs (λ k i. h k (there i)))
 
 -- the numbers that stand at the places of the facets
-pub numbers_read : (side place : ℕ) (numbers : List ℕ) → 0 < side → place < volume side → side % 2 ≡ 0 → numbers ≡ map (number_at side) (range_with_len 0 (volume side))
+pub numbers_read : (side place : ℕ) (numbers : List ℕ) → 0 < side → place < volume side → Turns side → numbers ≡ map (number_at side) (range_with_len 0 (volume side))
     → map (λ k. get_or numbers k 0) (facet_places side place) ≡ map (number_at side) (facet_places side place)
-numbers_read side place numbers some low even e =
+numbers_read side place numbers some low turns e =
     map_same_In (λ k. get_or numbers k 0) (number_at side) (facet_places side place)
-    (λ k i. ap (λ (ns : List ℕ). get_or ns k 0) e ∙ get_or-map-range_with_len (number_at side) 0 (volume side) k k 0 (are_neighbors side place some low even k i).below (omega arith))
+    (λ k i. ap (λ (ns : List ℕ). get_or ns k 0) e ∙ get_or-map-range_with_len (number_at side) 0 (volume side) k k 0 (are_neighbors side place some low turns k i).below (omega arith))
 
 -- the sorted list is that of the facets
-pub sorted_facets : (side place : ℕ) (found sorted : List ℕ) → 0 < side → place < volume side → side % 2 ≡ 0 → found ≡ map (number_at side) (facet_places side place) → IsStrictlyIncreasing sorted
+pub sorted_facets : (side place : ℕ) (found sorted : List ℕ) → 0 < side → place < volume side → Turns side → found ≡ map (number_at side) (facet_places side place) → IsStrictlyIncreasing sorted
     → ((n : ℕ) → Contains found n → Contains sorted n) → ((n : ℕ) → Contains sorted n → Contains found n) → sorted ≡ facets_at side (dim_at side place) place
-sorted_facets side place found sorted some low even e r keeps adds_none =
-    facets_are side place some low even sorted r
+sorted_facets side place found sorted some low turns e r keeps adds_none =
+    facets_are side place some low turns sorted r
     (λ n i. subst (In n) e (holds-In found (holds-from found n (adds_none n (Contains-from_holds sorted n (In-holds i))))))
     (λ n i. holds-In sorted (holds-from sorted n (keeps n (Contains-from_holds found n (In-holds (subst (In n) (sym e) i))))))

@@ -1,24 +1,23 @@
 -- The torus in the making.
-use Rattle.std.proofs.Common.{◌≡◌, ◌≢◌, inl, inr, ℕ, zero, suc, ◌+◌, ◌-◌, ◌*◌, ◌/◌, ◌%◌, ◌<◌, ◌≤◌, List, [], ◌∷◌, ◌++◌, Bool, true, false, cond, eqb, ltb, filter, map, length, get_or, set, refl, ap, sym, ◌∙◌, subst, arith}
-use Rattle.std.specs.List.{range_with_len, list_any}
-use Rattle.std.proofs.Math.Nat.{mul_comm}
+use Rattle.std.proofs.Common.{◌≡◌, ◌≢◌, ℕ, zero, suc, ◌+◌, ◌-◌, ◌*◌, ◌/◌, ◌%◌, ◌<◌, ◌≤◌, List, [], ◌∷◌, ◌++◌, Bool, true, false, cond, eqb, map, length, get_or, set, refl, ap, sym, ◌∙◌, arith}
+use Rattle.std.specs.List.{list_any}
 use Rattle.std.proofs.lemmas.Bool.{eq-eqb}
 use Rattle.std.proofs.lemmas.List.{map-append, append-nil, length-map}
 use Rattle.face_poset.specs.Words.{upto}
 use Rattle.face_poset.specs.Poset.{layer, count, IsCell}
 use Rattle.face_poset.proofs.Members.{differ}
-use Rattle.regular_check.proofs.Members.{In, here, there, In-inside, In-left, In-right, In-at, at-In}
+use Rattle.regular_check.proofs.Members.{In, here, In-inside, In-at, at-In}
 use Rattle.regular_check.proofs.Joined.{upto-In}
-use Rattle.array_readers.specs.Tuples.{tuples, same, dim_of, is_odd, cells_in, numbers_in, layer_of, space_of}
-use Rattle.array_readers.specs.Torus.{facets_round, torus_of}
-use Rattle.array_readers.specs.Grid.{volume, triple_at, dim_at, number_at, pair_places, facet_places, moved, facets_at, cells_before, stage_layer, stage}
+use Rattle.array_readers.specs.Tuples.{tuples, same, is_odd, cells_in, numbers_in, layer_of, space_of}
+use Rattle.array_readers.specs.Torus.{facets_round}
+use Rattle.array_readers.specs.Grid.{volume, triple_at, dim_at, number_at, facet_places, moved, facets_at, cells_before, stage}
 use Rattle.array_readers.proofs.Places.{passing, passing-more}
 use Rattle.array_readers.proofs.Triples.{cells_are, map_twice}
-use Rattle.array_readers.proofs.Neighbors.{IsNeighbor, are_neighbors, dim-cons}
+use Rattle.array_readers.proofs.Neighbors.{Turns, are_neighbors, dim-cons}
 use Rattle.array_readers.proofs.Numbering.{rises, to_facet, from_facet, length-cells, map-In, In-map}
 
 -- a fact at each dimension
-by_dim : (P : ℕ → Type 0) → P 0 → P 1 → P 2 → P 3 → (d : ℕ) → d ≤ 3 → P d
+pub by_dim : (P : ℕ → Type 0) → P 0 → P 1 → P 2 → P 3 → (d : ℕ) → d ≤ 3 → P d
 by_dim P a b c e zero l = a
 by_dim P a b c e (suc zero) l = b
 by_dim P a b c e (suc (suc zero)) l = c
@@ -107,7 +106,7 @@ module _ (side : ℕ) where
       by_dim (λ d. 1 ≤ d → count (stage side d place) (d - 1) ≡ length (full (d - 1))) (λ h. absurd (omega arith)) (λ h. refl) (λ h. refl) (λ h. refl) dim l m
       ∙ (length-map (passing (λ p. eqb (dim_at side p) (dim - 1)) (volume side)) (facets_at side (dim - 1)) ∙ sym (length-cells side (dim - 1) some))
 
-  layers : (dim : ℕ) → 0 < side → cells_before side dim (volume side) ≡ map (λ t. numbers_in (cells_in (tuples 3 side) (dim - 1)) (facets_round side t)) (cells_in (tuples 3 side) dim)
+  pub layers : (dim : ℕ) → 0 < side → cells_before side dim (volume side) ≡ map (λ t. numbers_in (cells_in (tuples 3 side) (dim - 1)) (facets_round side t)) (cells_in (tuples 3 side) dim)
   layers dim some =
       sym (ap (map (λ t. numbers_in (cells_in (tuples 3 side) (dim - 1)) (facets_round side t))) (cells_are side dim some)
       ∙ map_twice (λ t. numbers_in (cells_in (tuples 3 side) (dim - 1)) (facets_round side t)) (triple_at side) (passing (λ p. eqb (dim_at side p) dim) (volume side)))
@@ -132,12 +131,12 @@ some_of a b c d e f false true bz h = (c, here)
 some_of a b c d e f false false true h = (e, here)
 some_of a b c d e f false false false h = absurd (omega arith)
 
-module _ (side place : ℕ) (some : 0 < side) (low : place < volume side) (even : side % 2 ≡ 0) where
+module _ (side place : ℕ) (some : 0 < side) (low : place < volume side) (turns : Turns side) where
   -- a vertex has no facet
   pub no_facets : dim_at side place ≡ 0 → facets_at side (dim_at side place) place ≡ []
   no_facets e =
       none_in (facets_at side (dim_at side place) place)
-      (λ n i. let r = map-In (number_at side) (facet_places side place) (from_facet side place some low even n i) in omega (arith, (are_neighbors side place some low even r.0 r.1).dim, e))
+      (λ n i. let r = map-In (number_at side) (facet_places side place) (from_facet side place some low turns n i) in omega (arith, (are_neighbors side place some low turns r.0 r.1).dim, e))
 
   -- another cell has some
   first_place : 1 ≤ dim_at side place → (k : ℕ) × In k (facet_places side place)
@@ -151,9 +150,9 @@ module _ (side place : ℕ) (some : 0 < side) (low : place < volume side) (even 
   pub cell_facets : 1 ≤ dim_at side place → IsCell (length (cells_in (tuples 3 side) (dim_at side place - 1))) (facets_at side (dim_at side place) place)
   cell_facets h =
       let f = first_place h in
-      let i = In-at (to_facet side place some low even (number_at side f.0) (In-map (number_at side) f.1)) in
+      let i = In-at (to_facet side place some low turns (number_at side f.0) (In-map (number_at side) f.1)) in
       record {
-        rises = rises side place some low even;
+        rises = rises side place some low turns;
         within = λ k d l. upto-In (length (cells_in (tuples 3 side) (dim_at side place - 1))) (get_or (facets_at side (dim_at side place) place) k d)
             (In-inside (λ n. list_any (same (get_or (cells_in (tuples 3 side) (dim_at side place - 1)) (n - 1) [])) (facets_round side (triple_at side place))) (upto (length (cells_in (tuples 3 side) (dim_at side place - 1)))) (at-In (facets_at side (dim_at side place) place) k d l));
         some = omega (arith, i.1);

@@ -1,14 +1,14 @@
 -- Triples by their places in lexicographic order.
-use Rattle.std.proofs.Common.{◌≡◌, ℕ, zero, suc, ◌+◌, ◌-◌, ◌*◌, ◌/◌, ◌%◌, ◌<◌, ◌≤◌, List, [], ◌∷◌, ◌++◌, Bool, true, false, cond, eqb, ◌&&◌, filter, map, length, get_or, refl, ap, sym, ◌∙◌, subst, arith}
+use Rattle.std.proofs.Common.{◌≡◌, ℕ, zero, suc, ◌+◌, ◌*◌, ◌/◌, ◌%◌, ◌<◌, ◌≤◌, List, [], ◌∷◌, ◌++◌, Bool, true, false, cond, eqb, filter, map, get_or, refl, ap, sym, ◌∙◌, arith}
 use Rattle.std.specs.List.{range_with_len, flat_map}
 use Rattle.std.proofs.Math.Nat.{mul_comm, mul-le-mul_right}
 use Rattle.std.proofs.lemmas.Bool.{eqb-true, eq-eqb, false≢true}
-use Rattle.std.proofs.lemmas.Nat.{div-mul-add, mod-mul-add, div-add-mod', mod_below, div_below}
-use Rattle.std.proofs.lemmas.List.{same_lists, length-append, append-nil, append_assoc}
+use Rattle.std.proofs.lemmas.Nat.{div-mul-add, mod-mul-add, div-add-mod'}
+use Rattle.std.proofs.lemmas.List.{same_lists, append-nil, append_assoc}
 use Rattle.std.proofs.lemmas.List.Concat.{flat_map-append}
 use Rattle.std.proofs.lemmas.List.FromFn.{length-map-range_with_len, get_or-map-range_with_len, map-range_with_len_more}
 use Rattle.regular_check.proofs.Members.{and-left, and-right, and-both}
-use Rattle.array_readers.specs.Tuples.{tuples, same, dim_of, is_odd, cells_in}
+use Rattle.array_readers.specs.Tuples.{tuples, same, dim_of, cells_in}
 use Rattle.array_readers.specs.Grid.{volume, triple_at, dim_at}
 use Rattle.array_readers.proofs.Places.{range-more, passing}
 

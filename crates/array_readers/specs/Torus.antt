@@ -1,6 +1,7 @@
 -- The 3-torus of a size: the cells are the triples of coordinates below twice the size, and coordinates go round.
-use Rattle.std.specs.Prelude.{◌≡◌, ℕ, ◌+◌, ◌-◌, ◌*◌, ◌%◌, ◌^◌, List, [], ◌∷◌, ◌++◌, map, cond}
+use Rattle.std.specs.Prelude.{◌≡◌, ℕ, ◌+◌, ◌-◌, ◌*◌, ◌%◌, ◌^◌, ◌≤◌, List, [], ◌∷◌, ◌++◌, map, cond}
 use Rattle.face_poset.specs.Poset.{count}
+use Rattle.regular_check.specs.Rules.{IsRegular}
 use Rattle.array_readers.specs.Tuples.{tuples, is_odd, space_of}
 
 -- the facets of a tuple: an odd coordinate c is replaced by c - 1, or by c + 1 modulo the period
@@ -18,3 +19,7 @@ pub record HasTorusCounts (size : ℕ) (space : List (List (List ℕ))) : Type 0
   pub edges : count space 1 ≡ 3 * size ^ 3
   pub squares : count space 2 ≡ 3 * size ^ 3
   pub cubes : count space 3 ≡ size ^ 3
+
+-- each torus is regular
+abbrev pub TorusIsRegular : Type 0
+TorusIsRegular = (size : ℕ) → 2 ≤ size → size ≤ 19 → IsRegular (torus_of size)

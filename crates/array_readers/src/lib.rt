@@ -2,8 +2,10 @@
 #![tactic(auto)]
 
 mod grid;
+mod laws;
 mod tori;
 
+pub use laws::torus_is_regular;
 pub use tori::torus;
 
 #[cfg(test)]

@@ -1,10 +1,10 @@
-use Rattle.std.proofs.Common.{◌≡◌, ◌+◌, ◌-◌, ◌*◌, ◌/◌, ◌%◌, ◌<◌, ◌≤◌, ℕ, List, [], ◌++◌, map, length, get_or, ap, sym, ◌∙◌, arith}
+use Rattle.std.proofs.Common.{◌≡◌, ◌-◌, ◌*◌, ◌/◌, ◌%◌, ◌<◌, ◌≤◌, ℕ, List, [], ◌++◌, map, length, get_or, ap, sym, ◌∙◌, arith}
 use Rattle.std.specs.List.{range_with_len}
 use Rattle.std.proofs.lemmas.List.{map-append, append_assoc}
 use Rattle.std.proofs.lemmas.List.FromFn.{length-map-range_with_len}
 use Rattle.array_readers.specs.Grid.{volume, number_at, moved, pair_places, facet_places}
 use Rattle.array_readers.proofs.Places.{volume-le}
-use Rattle.array_readers.proofs.Neighbors.{x-below, y-below, z-below, in_volume, moved-x, moved-y, moved-z}
+use Rattle.array_readers.proofs.Neighbors.{even_turns, x-below, y-below, z-below, in_volume, moved-x, moved-y, moved-z}
 use Rattle.array_readers.proofs.Numbering.{numbers_read, sorted_facets}
 use Rattle.array_readers.proofs.grid.list_facets.Goals as goal
 
@@ -61,5 +61,5 @@ returns c =
     let found : c.push_pair-3.new.facets.items ≡ map (λ k. get_or c.args.numbers.now k 0) (facet_places side place) =
     joined (λ k. get_or c.args.numbers.now k 0) c.clear.new.self.items (pair_places side (side * side) place (place / (side * side))) (pair_places side side place (place % (side * side) / side)) (pair_places side 1 place (place % (side * side) % side))
     c.push_pair.new.facets.items c.push_pair-2.new.facets.items c.push_pair-3.new.facets.items c.clear.ensures.items c.in_ok-push_pair.ensures c.in_ok-push_pair-2.ensures c.in_ok-push_pair-3.ensures in
-    sorted_facets side place c.push_pair-3.new.facets.items c.sort_once.new.numbers.items some c.requires.place c.requires.even (found ∙ numbers_read side place c.args.numbers.now some c.requires.place c.requires.even c.requires.numbers)
+    sorted_facets side place c.push_pair-3.new.facets.items c.sort_once.new.numbers.items some c.requires.place (even_turns side c.requires.even) (found ∙ numbers_read side place c.args.numbers.now some c.requires.place (even_turns side c.requires.even) c.requires.numbers)
     c.sort_once.ensures.rises c.sort_once.ensures.keeps c.sort_once.ensures.adds_none

@@ -1,8 +1,8 @@
-use Rattle.std.proofs.Common.{◌≡◌, ◌+◌, ◌<◌, ◌≤◌, ℕ, List, eqb, [], ◌∷◌, ◌++◌, map, get_or, set, ap, sym, ◌∙◌, arith}
+use Rattle.std.proofs.Common.{◌≡◌, ◌+◌, ◌≤◌, ℕ, List, eqb, [], ◌∷◌, ◌++◌, map, get_or, set, ap, sym, ◌∙◌, arith}
 use Rattle.std.specs.List.{range_with_len}
 use Rattle.std.proofs.lemmas.List.{length-set, get_or-set_same}
 use Rattle.std.proofs.lemmas.List.FromFn.{map-range_with_len_more}
-use Rattle.array_readers.specs.Grid.{volume, dim_at, before, number_at}
+use Rattle.array_readers.specs.Grid.{dim_at, before, number_at}
 use Rattle.array_readers.proofs.Places.{passing-le, volume-le, counts-more}
 use Rattle.array_readers.proofs.grid.number_all.Goals as goal
 

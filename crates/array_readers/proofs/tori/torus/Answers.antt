@@ -1,10 +1,12 @@
-use Rattle.std.proofs.Common.{◌≡◌, ◌*◌, ◌≤◌, ℕ, List, refl, ap, sym, ◌∙◌, subst, arith, Result, Ok, Err, IfOk}
+use Rattle.std.proofs.Common.{◌≡◌, ◌*◌, ◌≤◌, ℕ, List, ap, sym, ◌∙◌, subst, arith, Result, Ok, Err, IfOk}
 use Rattle.face_poset.specs.Poset.{count}
+use Rattle.regular_check.specs.Rules.{IsRegular}
 use Rattle.array_readers.specs.Tuples.{tuples, space_of}
 use Rattle.array_readers.specs.Torus.{facets_round, torus_of, HasTorusCounts}
 use Rattle.array_readers.specs.Grid.{stage}
 use Rattle.array_readers.proofs.Stages.{stage-all}
 use Rattle.array_readers.proofs.Counts.{torus_counts, some_vertex}
+use Rattle.array_readers.proofs.Regularity.{torus_regular}
 use Rattle.array_readers.proofs.tori.torus.Goals as goal
 
 -- what stands at the end
@@ -27,6 +29,10 @@ counted : {E : Type 0} (r : Result (List (List (List ℕ))) E) (size : ℕ) → 
 counted (Ok s) size h = subst (HasTorusCounts size) (sym h) (torus_counts size)
 counted (Err e) size h = h
 
+regular : {E : Type 0} (r : Result (List (List (List ℕ))) E) (size : ℕ) → 2 ≤ size → size ≤ 19 → IfOk r (λ space. space ≡ torus_of size) → IfOk r IsRegular
+regular (Ok s) size low high h = subst IsRegular (sym h) (torus_regular size low high)
+regular (Err e) size low high h = h
+
 pub returns-clause-space : goal.returns-clause-space
 returns-clause-space c =
     spaces c.finish.result c.args.size c.loop-dim.builder (whole c.args.size c.loop-dim.dim c.loop-dim.builder c.requires.low (omega (arith, c.loop-dim-test.false, c.loop-dim.auto.dim-end)) c.loop-dim.invariant) c.finish.ensures
@@ -34,4 +40,9 @@ returns-clause-space c =
 pub returns-clause-counts : goal.returns-clause-counts
 returns-clause-counts c =
     counted c.finish.result c.args.size
+    (spaces c.finish.result c.args.size c.loop-dim.builder (whole c.args.size c.loop-dim.dim c.loop-dim.builder c.requires.low (omega (arith, c.loop-dim-test.false, c.loop-dim.auto.dim-end)) c.loop-dim.invariant) c.finish.ensures)
+
+pub returns-clause-regular : goal.returns-clause-regular
+returns-clause-regular c =
+    regular c.finish.result c.args.size c.requires.low c.requires.high
     (spaces c.finish.result c.args.size c.loop-dim.builder (whole c.args.size c.loop-dim.dim c.loop-dim.builder c.requires.low (omega (arith, c.loop-dim-test.false, c.loop-dim.auto.dim-end)) c.loop-dim.invariant) c.finish.ensures)
