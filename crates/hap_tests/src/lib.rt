@@ -8,6 +8,8 @@ mod betti;
 #[cfg(test)]
 mod cells;
 #[cfg(test)]
+mod chains;
+#[cfg(test)]
 mod check;
 #[cfg(test)]
 mod make;
