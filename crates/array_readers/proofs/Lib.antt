@@ -5,7 +5,7 @@ pub mod Numbering
 pub mod Stages
 pub mod Counts
 pub mod Cube
-pub mod Spots
-pub mod Copies
-pub mod Regularity
 pub mod Rooms
+pub mod Among
+pub mod TupleSpaces
+pub mod Regularity

@@ -1,110 +1,220 @@
--- The torus is regular: each cell with its faces is a copy of a face of the 3-cube.
-use Rattle.std.proofs.Common.{◌≡◌, ◌≢◌, ℕ, suc, ◌+◌, ◌-◌, ◌*◌, ◌/◌, ◌%◌, ◌<◌, ◌≤◌, [], ◌∷◌, Bool, true, false, eqb, get_or, refl, ap, sym, ◌∙◌, subst, arith}
+-- The torus is regular: a cell with its faces lies at fixed offsets from the corner of a cube, and is the 3-cube or one of its faces.
+use Rattle.std.proofs.Common.{◌≡◌, ◌≢◌, ◌⊎◌, inl, inr, ℕ, zero, suc, ◌+◌, ◌-◌, ◌*◌, ◌%◌, ◌<◌, ◌≤◌, List, [], ◌∷◌, ◌++◌, Bool, true, false, cond, map, length, drop, get_or, refl, ap, sym, ◌∙◌, subst, arith}
+use Rattle.std.specs.List.{range_with_len}
+use Rattle.std.proofs.Math.Nat.{mod-eq_of_lt}
 use Rattle.std.proofs.lemmas.Bool.{eq-eqb, false≢true}
-use Rattle.face_poset.specs.Poset.{IsSpace, count, facets_of}
-use Rattle.regular_check.specs.Rules.{IsRegular, two_ends, one_cycle, each_twice, connected, is_spherical}
-use Rattle.regular_check.proofs.Members.{In}
-use Rattle.regular_check.proofs.Cells.{facets-cell}
-use Rattle.regular_check.proofs.Distinct.{cell-In}
-use Rattle.regular_check.proofs.RegularParts.{regular_from}
-use Rattle.regular_check.proofs.Transfer.{IsCopy, edge_copied, disk_copied, solid_copied}
-use Rattle.array_readers.specs.Tuples.{is_odd}
-use Rattle.array_readers.specs.Torus.{torus_of}
-use Rattle.array_readers.specs.Grid.{volume, triple_at, dim_at, number_at, facet_places}
-use Rattle.array_readers.proofs.Places.{passing}
-use Rattle.array_readers.proofs.Triples.{triple_of, place_is}
-use Rattle.array_readers.proofs.Neighbors.{even_turns, are_neighbors, x-below, y-below, z-below, in_volume}
-use Rattle.array_readers.proofs.Numbering.{map-In, In-map}
-use Rattle.array_readers.proofs.Spots.{whole, IsSpot, is_spot, IsNumber, is_number, dim-low, facets-In, In-facets, is_space}
-use Rattle.array_readers.proofs.Copies.{offset, three_turns, IsBase, shift, shift-below, shift-dim, shift-once, facets_shift, shift-of, offset-zero, offset-one}
+use Rattle.std.proofs.lemmas.List.{map-append}
+use Rattle.std.proofs.lemmas.List.FromFn.{length-map-range_with_len}
+use Rattle.regular_check.specs.Rules.{IsRegular}
+use Rattle.array_readers.specs.Tuples.{tuples, dim_of, is_odd, space_of}
+use Rattle.array_readers.specs.Torus.{facets_round, torus_of}
+use Rattle.array_readers.specs.Grid.{volume, triple_at}
+use Rattle.array_readers.proofs.Places.{volume-le}
+use Rattle.array_readers.proofs.Triples.{triples, map_twice}
+use Rattle.array_readers.proofs.Neighbors.{Turns, even_turns, dim-cons, odd-low, below-even, up-cases, up-below}
+use Rattle.array_readers.proofs.Among.{Among, here, there, AreDistinct, none, more, append-Among, Among-map, map-Among, flat_map-Among, Among-flat_map, distinct-map, distinct-flat_map, Among-range, range-Among, distinct-range}
+use Rattle.array_readers.proofs.TupleSpaces.{IsTupleSpace, IsMoving, regular_by_copies}
 use Rattle.array_readers.proofs.Cube.{cube_regular}
 
-three_some : 0 < 3
-three_some = omega arith
+-- ---- tuples below a limit
 
--- the cells of the 3-cube
-abbrev part : ℕ → ℕ → Type 0
-part d c = (1 ≤ c) × (c ≤ count (whole 3) d)
+-- so many coordinates, each below the limit
+data AreBelow (limit : ℕ) : ℕ → List ℕ → Type 0 where
+  no_more : AreBelow limit 0 []
+  one_more : {n c : ℕ} {cs : List ℕ} → c < limit → AreBelow limit n cs → AreBelow limit (suc n) (c ∷ cs)
 
-abbrev spot3 : ℕ → ℕ → ℕ
-spot3 d c = get_or (passing (λ p. eqb (dim_at 3 p) d) (volume 3)) (c - 1) 0
+tuples-below : (limit n : ℕ) (t : List ℕ) → Among t (tuples n limit) → AreBelow limit n t
+tuples-below limit zero t i = by_place i
+  where
+    by_place : {u : List ℕ} → Among u ([] ∷ []) → AreBelow limit 0 u
+    by_place here = no_more
+    by_place (there j) = elim j [ ]
+tuples-below limit (suc n) t i =
+    let r = flat_map-Among (λ (c : ℕ). map (λ u. c ∷ u) (tuples n limit)) (range_with_len 0 limit) i in
+    let s = map-Among (λ u. r.0 ∷ u) (tuples n limit) r.2 in
+    subst (AreBelow limit (suc n)) (sym s.2) (one_more (let w = range-Among 0 limit r.0 r.1 in omega (arith, w.1)) (tuples-below limit n s.0 s.1))
+
+below-tuples : (limit : ℕ) {n : ℕ} {t : List ℕ} → AreBelow limit n t → Among t (tuples n limit)
+below-tuples limit no_more = here
+below-tuples limit (one_more {n} {c} {cs} l b) = Among-flat_map (λ (d : ℕ). map (λ u. d ∷ u) (tuples n limit)) (Among-range 0 limit c (omega arith) (omega arith)) (Among-map (λ u. c ∷ u) (below-tuples limit b))
+
+distinct-tuples : (limit n : ℕ) → AreDistinct (tuples n limit)
+distinct-tuples limit zero = more (λ i. elim i [ ]) none
+distinct-tuples limit (suc n) =
+    distinct-flat_map (λ (c : ℕ). map (λ u. c ∷ u) (tuples n limit)) (distinct-range 0 limit) (λ c. distinct-map (λ u. c ∷ u) (λ t u e. tail_same c t u e) (distinct-tuples limit n))
+    (λ c d t i j.
+    let r = map-Among (λ u. c ∷ u) (tuples n limit) i in
+    let s = map-Among (λ u. d ∷ u) (tuples n limit) j in
+    ap (λ (v : List ℕ). get_or v 0 0) (sym r.2 ∙ s.2))
+  where
+    tail_same : (c : ℕ) (t u : List ℕ) → c ∷ t ≡ c ∷ u → t ≡ u
+    tail_same c t u e = cc
+
+-- ---- the facets of a tuple
+
+module _ (side : ℕ) (turns : Turns side) where
+  two_of : {A : Type 0} (b : Bool) (x y : A) {z : A} → Among z (cond b (x ∷ y ∷ []) []) → (b ≡ true) × ((z ≡ x) ⊎ (z ≡ y))
+  two_of true x y here = (refl, inl refl)
+  two_of true x y (there here) = (refl, inr refl)
+  two_of true x y (there (there i)) = elim i [ ]
+  two_of false x y i = elim i [ ]
+
+  -- an odd coordinate is replaced by an even one
+  replaced : (c d : ℕ) (cs : List ℕ) → is_odd c ≡ true → is_odd d ≡ false → dim_of (d ∷ cs) + 1 ≡ dim_of (c ∷ cs)
+  replaced c d cs o e = omega (arith, dim-cons d cs ∙ ap (λ (b : Bool). cond b 1 0 + dim_of cs) e, dim-cons c cs ∙ ap (λ (b : Bool). cond b 1 0 + dim_of cs) o)
+
+  facet_of : {n : ℕ} {t : List ℕ} (u : List ℕ) → AreBelow side n t → Among u (facets_round side t) → AreBelow side n u × (dim_of u + 1 ≡ dim_of t)
+  facet_of u no_more i = elim i [ ]
+  facet_of u (one_more {n} {c} {cs} l b) i =
+      elim (append-Among (cond (is_odd c) (((c - 1) ∷ cs) ∷ (((c + 1) % side) ∷ cs) ∷ []) []) (map (λ t. c ∷ t) (facets_round side cs)) i) [
+        | inl p ↦
+            let r = two_of (is_odd c) ((c - 1) ∷ cs) (((c + 1) % side) ∷ cs) p in
+            elim r.1 [
+              | inl e ↦ subst (λ (v : List ℕ). AreBelow side (suc n) v × (dim_of v + 1 ≡ dim_of (c ∷ cs))) (sym e) (one_more (omega arith) b, replaced c (c - 1) cs r.0 (below-even c r.0))
+              | inr e ↦ subst (λ (v : List ℕ). AreBelow side (suc n) v × (dim_of v + 1 ≡ dim_of (c ∷ cs))) (sym e) (one_more (up-below side c l) b, replaced c ((c + 1) % side) cs r.0 (turns c l r.0))
+            ]
+        | inr p ↦
+            let r = map-Among (λ t. c ∷ t) (facets_round side cs) p in
+            let k = facet_of r.0 b r.1 in
+            subst (λ (v : List ℕ). AreBelow side (suc n) v × (dim_of v + 1 ≡ dim_of (c ∷ cs))) (sym r.2) (one_more l k.0, omega (arith, dim-cons c r.0, dim-cons c cs, k.1))
+      ]
+
+  some_facet : (t : List ℕ) → 1 ≤ dim_of t → (u : List ℕ) × Among u (facets_round side t)
+  some_facet [] h = absurd (omega (arith, h))
+  some_facet (c ∷ cs) h = by_test (is_odd c) (omega (arith, h, dim-cons c cs)) (λ k. some_facet cs k)
+    where
+      by_test : (b : Bool) → 1 ≤ cond b 1 0 + dim_of cs → (1 ≤ dim_of cs → (u : List ℕ) × Among u (facets_round side cs)) → (u : List ℕ) × Among u (cond b (((c - 1) ∷ cs) ∷ (((c + 1) % side) ∷ cs) ∷ []) [] ++ map (λ t. c ∷ t) (facets_round side cs))
+      by_test true l k = ((c - 1) ∷ cs, here)
+      by_test false l k = let r = k (omega (arith, l)) in (c ∷ r.0, Among-map (λ t. c ∷ t) r.1)
+
+  -- all triples below a side
+  triple_space : 0 < side → side ≤ 38 → IsTupleSpace (facets_round side) (tuples 3 side)
+  triple_space some small =
+      record {
+        distinct = distinct-tuples side 3;
+        closed = λ t u i j. (let r = facet_of u (tuples-below side 3 t i) j in (below-tuples side r.0, r.1));
+        some = λ t i l. some_facet t l;
+        few = omega (arith, ap length (triples side some), length-map-range_with_len (triple_at side) 0 (volume side), volume-le side small);
+      }
+
+-- ---- one direction
+
+-- the coordinate that lies at an offset from the one below an odd coordinate
+abbrev pub offset : (side base : ℕ) → ℕ → ℕ
+offset side base a = (base - 1 + a) % side
+
+three : (P : ℕ → Type 0) → P 0 → P 1 → P 2 → (a : ℕ) → a < 3 → P a
+three P p q r zero l = p
+three P p q r (suc zero) l = q
+three P p q r (suc (suc zero)) l = r
+three P p q r (suc (suc (suc a))) l = absurd (omega arith)
+
+-- the numbers below 3
+pub three_turns : Turns 3
+three_turns c l e = three (λ c. is_odd c ≡ true → is_odd ((c + 1) % 3) ≡ false) (λ o. absurd (false≢true o)) (λ o. refl) (λ o. absurd (false≢true o)) c l e
 
 module _ (side : ℕ) (even : side % 2 ≡ 0) (four : 4 ≤ side) where
-  big_some : 0 < side
-  big_some = omega (arith, four)
+  module _ (base : ℕ) (low : base < side) (odd : is_odd base ≡ true) where
+    pub offset-zero : offset side base 0 ≡ base - 1
+    offset-zero = let e : base - 1 + 0 ≡ base - 1 = omega arith in ap (λ (n : ℕ). n % side) e ∙ mod-eq_of_lt (let l : base - 1 < side = omega (arith, low) in l)
 
-  module _ (X Y Z : ℕ) (base : IsBase side even four X Y Z) where
-    abbrev move : ℕ → ℕ
-    move q = shift side even four X Y Z base q
+    pub offset-one : offset side base 1 ≡ base
+    offset-one = let o : 1 ≤ base = odd-low base odd in let e : base - 1 + 1 ≡ base = omega arith in ap (λ (n : ℕ). n % side) e ∙ mod-eq_of_lt low
 
-    -- where a cell of the 3-cube goes
-    abbrev φ : ℕ → ℕ → ℕ
-    φ d c = number_at side (shift side even four X Y Z base (get_or (passing (λ p. eqb (dim_at 3 p) d) (volume 3)) (c - 1) 0))
+    offset-two : offset side base 2 ≡ (base + 1) % side
+    offset-two = let o : 1 ≤ base = odd-low base odd in let e : base - 1 + 2 ≡ base + 1 = omega arith in ap (λ (n : ℕ). n % side) e
 
-    record IsMoved (d c : ℕ) : Type 0 where
-      pub here : IsSpot 3 three_some d c (spot3 d c)
-      pub below : move (spot3 d c) < volume side
-      pub dim : dim_at side (move (spot3 d c)) ≡ d
-      pub number : IsNumber side big_some d (move (spot3 d c)) (φ d c)
+    offset-below : (a : ℕ) → a < 3 → offset side base a < side
+    offset-below a l =
+        three (λ a. offset side base a < side) (omega (arith, offset-zero, low)) (omega (arith, offset-one, low))
+        (elim (up-cases side base low) [ inl q ↦ omega (arith, offset-two, q.0, q.1) | inr q ↦ omega (arith, offset-two, q.1, four) ]) a l
 
-    is_moved : (d c : ℕ) → part d c → IsMoved d c
-    is_moved d c p =
-        let s = is_spot 3 three_some d c p.0 p.1 in
-        let b = shift-below side even four X Y Z base (spot3 d c) s.below in
-        let e : dim_at side (move (spot3 d c)) ≡ d = shift-dim side even four X Y Z base (spot3 d c) s.below ∙ s.dim in
-        record { here = s; below = b; dim = e; number = is_number side big_some d (move (spot3 d c)) (dim-low 3 three_some d c p.0 p.1) b e }
+    offset-odd : (a : ℕ) → a < 3 → is_odd (offset side base a) ≡ is_odd a
+    offset-odd a l =
+        three (λ a. is_odd (offset side base a) ≡ is_odd a) (ap is_odd offset-zero ∙ below-even base odd) (ap is_odd offset-one ∙ odd) (ap is_odd offset-two ∙ even_turns side even base low odd) a l
 
-    -- a facet of a cell of the 3-cube
-    down : (d c f : ℕ) → part (suc d) c → In f (facets_of (whole 3) (suc d) c) → part d f
-    down d c f p i =
-        let v : IsSpace (whole 3) = is_space 3 three_some three_turns (omega arith) in
-        let e : suc d - 1 ≡ d = omega arith in
-        cell-In (count (whole 3) d) (facets_of (whole 3) (suc d) c) (facets-cell (whole 3) (suc d) c (count (whole 3) d) v (omega arith) p.0 p.1 (omega (arith, ap (count (whole 3)) e))) f i
+    apart : (a b : ℕ) → (offset side base 0 ≡ offset side base 1 → ⊥) × (offset side base 0 ≡ offset side base 2 → ⊥) × (offset side base 1 ≡ offset side base 2 → ⊥)
+    apart a b =
+        let o : 1 ≤ base = odd-low base odd in (
+          λ e. omega (arith, e, offset-zero, offset-one, o),
+          λ e. elim (up-cases side base low) [ inl q ↦ omega (arith, e, offset-zero, offset-two, q.1) | inr q ↦ omega (arith, e, offset-zero, offset-two, q.0, q.1, four) ],
+          λ e. elim (up-cases side base low) [ inl q ↦ omega (arith, e, offset-one, offset-two, q.1) | inr q ↦ omega (arith, e, offset-one, offset-two, q.1, o) ],
+        )
 
-    -- the cell of a place of the 3-cube goes to that of the place moved
-    φ-number : (d k : ℕ) → d ≤ 3 → k < volume 3 → dim_at 3 k ≡ d → φ d (number_at 3 k) ≡ number_at side (move k)
-    φ-number d k l b e = ap (λ (q : ℕ). number_at side (move q)) (is_number 3 three_some d k l b e).back
+    offset-once : (a b : ℕ) → a < 3 → b < 3 → offset side base a ≡ offset side base b → a ≡ b
+    offset-once a b l m =
+        three (λ a. offset side base a ≡ offset side base b → a ≡ b)
+        (three (λ b. offset side base 0 ≡ offset side base b → 0 ≡ b) (λ e. refl) (λ e. absurd ((apart 0 0).0 e)) (λ e. absurd ((apart 0 0).1 e)) b m)
+        (three (λ b. offset side base 1 ≡ offset side base b → 1 ≡ b) (λ e. absurd ((apart 0 0).0 (sym e))) (λ e. refl) (λ e. absurd ((apart 0 0).2 e)) b m)
+        (three (λ b. offset side base 2 ≡ offset side base b → 2 ≡ b) (λ e. absurd ((apart 0 0).1 (sym e))) (λ e. absurd ((apart 0 0).2 (sym e))) (λ e. refl) b m) a l
 
-    -- a facet's place
-    facet_spot : (d c k : ℕ) → part (suc d) c → In k (facet_places 3 (spot3 (suc d) c)) → (k < volume 3) × (dim_at 3 k ≡ d)
-    facet_spot d c k p i =
-        let s = is_spot 3 three_some (suc d) c p.0 p.1 in
-        let n = are_neighbors 3 (spot3 (suc d) c) three_some s.below three_turns k i in
-        (n.below, omega (arith, n.dim, s.dim))
+    offset-down : (a : ℕ) → a < 3 → is_odd a ≡ true → offset side base a - 1 ≡ offset side base (a - 1)
+    offset-down a l =
+        three (λ a. is_odd a ≡ true → offset side base a - 1 ≡ offset side base (a - 1)) (λ o. absurd (false≢true o)) (λ o. omega (arith, offset-one, offset-zero)) (λ o. absurd (false≢true o)) a l
 
-    low3 : (d c : ℕ) → part (suc d) c → d ≤ 3
-    low3 d c p = omega (arith, dim-low 3 three_some (suc d) c p.0 p.1)
+    offset-up : (a : ℕ) → a < 3 → is_odd a ≡ true → (offset side base a + 1) % side ≡ offset side base ((a + 1) % 3)
+    offset-up a l =
+        three (λ a. is_odd a ≡ true → (offset side base a + 1) % side ≡ offset side base ((a + 1) % 3)) (λ o. absurd (false≢true o))
+        (λ o. ap (λ (n : ℕ). (n + 1) % side) offset-one ∙ sym offset-two) (λ o. absurd (false≢true o)) a l
 
-    copy : IsCopy (whole 3) (whole side) part φ
-    copy =
-        record {
-          cell = λ d c p. p;
-          down = down;
-          image = λ d c p. (let m = is_moved d c p in (m.number.low, m.number.high));
-          once = λ d a b p q e.
-              let m = is_moved d a p in
-              let n = is_moved d b q in
-              let same : move (spot3 d a) ≡ move (spot3 d b) = sym m.number.back ∙ (ap (λ (c : ℕ). get_or (passing (λ p. eqb (dim_at side p) d) (volume side)) (c - 1) 0) e ∙ n.number.back) in
-              let spots : spot3 d a ≡ spot3 d b = shift-once side even four X Y Z base (spot3 d a) (spot3 d b) m.here.below n.here.below same in
-              sym m.here.number ∙ (ap (number_at 3) spots ∙ n.here.number);
-          to = λ d c f p i.
-              let m = is_moved (suc d) c p in
-              let r = facets-In 3 three_some three_turns d c f p.0 p.1 i in
-              let w = facet_spot d c r.0 p r.1 in
-              let k : In (move r.0) (facet_places side (move (spot3 (suc d) c))) = subst (In (move r.0)) (sym (facets_shift side even four X Y Z base (spot3 (suc d) c) m.here.below)) (In-map move r.1) in
-              let at : In (move r.0) (facet_places side (get_or (passing (λ p. eqb (dim_at side p) (suc d)) (volume side)) (φ (suc d) c - 1) 0)) = subst (λ (q : ℕ). In (move r.0) (facet_places side q)) (sym m.number.back) k in
-              let there : In (number_at side (move r.0)) (facets_of (whole side) (suc d) (φ (suc d) c)) = In-facets side big_some (even_turns side even) d (φ (suc d) c) (move r.0) m.number.low m.number.high at in
-              subst (λ (x : ℕ). In x (facets_of (whole side) (suc d) (φ (suc d) c))) (sym (ap (φ d) r.2 ∙ φ-number d r.0 (low3 d c p) w.0 w.1)) there;
-          from = λ d c y p i.
-              let m = is_moved (suc d) c p in
-              let r = facets-In side big_some (even_turns side even) d (φ (suc d) c) y m.number.low m.number.high i in
-              let k : In r.0 (facet_places side (move (spot3 (suc d) c))) = subst (λ (q : ℕ). In r.0 (facet_places side q)) m.number.back r.1 in
-              let s = map-In move (facet_places 3 (spot3 (suc d) c)) (subst (In r.0) (facets_shift side even four X Y Z base (spot3 (suc d) c) m.here.below) k) in
-              let w = facet_spot d c s.0 p s.1 in
-              (number_at 3 s.0, In-facets 3 three_some three_turns d c s.0 p.0 p.1 s.1, r.2 ∙ (ap (number_at side) s.2 ∙ sym (φ-number d s.0 (low3 d c p) w.0 w.1)));
-        }
+  -- ---- all directions
 
-  -- ---- each cell is a copy
+  -- odd coordinates, below the side
+  data AreBases : ℕ → List ℕ → Type 0 where
+    no_base : AreBases 0 []
+    one_base : {n b : ℕ} {bs : List ℕ} → b < side → is_odd b ≡ true → AreBases n bs → AreBases (suc n) (b ∷ bs)
+
+  -- the tuple at these offsets
+  abbrev offsets : List ℕ → List ℕ → List ℕ
+  offsets [] xs = []
+  offsets (b ∷ bs) [] = []
+  offsets (b ∷ bs) (a ∷ xs) = offset side b a ∷ offsets bs xs
+
+  offsets-below : {n : ℕ} {bs xs : List ℕ} → AreBases n bs → AreBelow 3 n xs → AreBelow side n (offsets bs xs)
+  offsets-below no_base no_more = no_more
+  offsets-below (one_base {n} {b} {bs} l o h) (one_more {c = a} {cs = xs} m k) = one_more (offset-below b l o a m) (offsets-below h k)
+
+  offsets-dim : {n : ℕ} {bs xs : List ℕ} → AreBases n bs → AreBelow 3 n xs → dim_of (offsets bs xs) ≡ dim_of xs
+  offsets-dim no_base no_more = refl
+  offsets-dim (one_base {n} {b} {bs} l o h) (one_more {c = a} {cs = xs} m k) =
+      dim-cons (offset side b a) (offsets bs xs)
+      ∙ (ap (λ (t : Bool). cond t 1 0 + dim_of (offsets bs xs)) (offset-odd b l o a m) ∙ (ap (λ (d : ℕ). cond (is_odd a) 1 0 + d) (offsets-dim h k) ∙ sym (dim-cons a xs)))
+
+  offsets-once : {n : ℕ} {bs ts us : List ℕ} → AreBases n bs → AreBelow 3 n ts → AreBelow 3 n us → offsets bs ts ≡ offsets bs us → ts ≡ us
+  offsets-once no_base no_more no_more e = refl
+  offsets-once (one_base {n} {b} {bs} l o h) (one_more {c = t} {cs = ts} m k) (one_more {c = u} {cs = us} p q) e =
+      let x : t ≡ u = offset-once b l o t u m p (ap (λ (v : List ℕ). get_or v 0 0) e) in
+      let y : ts ≡ us = offsets-once h k q (ap (λ (v : List ℕ). drop 1 v) e) in
+      ap (λ (c : ℕ). c ∷ ts) x ∙ ap (λ (v : List ℕ). u ∷ v) y
+
+  offsets-facets : {n : ℕ} {bs xs : List ℕ} → AreBases n bs → AreBelow 3 n xs → facets_round side (offsets bs xs) ≡ map (offsets bs) (facets_round 3 xs)
+  offsets-facets no_base no_more = refl
+  offsets-facets (one_base {n} {b} {bs} l o h) (one_more {c = a} {cs = xs} m k) =
+      let σs : List ℕ = offsets bs xs in
+      let first : cond (is_odd (offset side b a)) (((offset side b a - 1) ∷ σs) ∷ (((offset side b a + 1) % side) ∷ σs) ∷ []) [] ≡ map (offsets (b ∷ bs)) (cond (is_odd a) (((a - 1) ∷ xs) ∷ (((a + 1) % 3) ∷ xs) ∷ []) []) =
+      ap (λ (t : Bool). cond t (((offset side b a - 1) ∷ σs) ∷ (((offset side b a + 1) % side) ∷ σs) ∷ []) []) (offset-odd b l o a m) ∙ by_test (is_odd a) refl (λ e. offset-down b l o a m e) (λ e. offset-up b l o a m e) in
+      let others : map (λ t. offset side b a ∷ t) (facets_round side σs) ≡ map (offsets (b ∷ bs)) (map (λ t. a ∷ t) (facets_round 3 xs)) =
+      ap (map (λ t. offset side b a ∷ t)) (offsets-facets h k)
+      ∙ (map_twice (λ t. offset side b a ∷ t) (offsets bs) (facets_round 3 xs) ∙ sym (map_twice (offsets (b ∷ bs)) (λ t. a ∷ t) (facets_round 3 xs))) in
+      ap (λ (ts : List (List ℕ)). ts ++ map (λ t. offset side b a ∷ t) (facets_round side σs)) first
+      ∙ (ap (λ (ts : List (List ℕ)). map (offsets (b ∷ bs)) (cond (is_odd a) (((a - 1) ∷ xs) ∷ (((a + 1) % 3) ∷ xs) ∷ []) []) ++ ts) others
+      ∙ sym (map-append (offsets (b ∷ bs)) (cond (is_odd a) (((a - 1) ∷ xs) ∷ (((a + 1) % 3) ∷ xs) ∷ []) []) (map (λ t. a ∷ t) (facets_round 3 xs))))
+    where
+      by_test : (t : Bool) → is_odd a ≡ t → (is_odd a ≡ true → offset side b a - 1 ≡ offset side b (a - 1)) → (is_odd a ≡ true → (offset side b a + 1) % side ≡ offset side b ((a + 1) % 3))
+          → cond t (((offset side b a - 1) ∷ offsets bs xs) ∷ (((offset side b a + 1) % side) ∷ offsets bs xs) ∷ []) [] ≡ map (offsets (b ∷ bs)) (cond t (((a - 1) ∷ xs) ∷ (((a + 1) % 3) ∷ xs) ∷ []) [])
+      by_test true e down up =
+          ap (λ (c : ℕ). (c ∷ offsets bs xs) ∷ (((offset side b a + 1) % side) ∷ offsets bs xs) ∷ []) (down e) ∙ ap (λ (c : ℕ). (offset side b (a - 1) ∷ offsets bs xs) ∷ (c ∷ offsets bs xs) ∷ []) (up e)
+      by_test false e down up = refl
+
+  moving : (bs : List ℕ) → AreBases 3 bs → IsMoving (facets_round 3) (tuples 3 3) (facets_round side) (tuples 3 side) (offsets bs)
+  moving bs h = record {
+    into = λ t i. below-tuples side (offsets-below h (tuples-below 3 3 t i));
+    dim = λ t i. offsets-dim h (tuples-below 3 3 t i);
+    once = λ t u i j e. offsets-once h (tuples-below 3 3 t i) (tuples-below 3 3 u j) e;
+    facets_are = λ t i. offsets-facets h (tuples-below 3 3 t i);
+  }
+
+  -- ---- each cell
 
   -- a coordinate lies at an offset from the one below an odd coordinate
   record IsFrom (x base a : ℕ) : Type 0 where
@@ -114,14 +224,14 @@ module _ (side : ℕ) (even : side % 2 ≡ 0) (four : 4 ≤ side) where
     pub is : offset side base a ≡ x
 
   from_odd : (x : ℕ) → x < side → is_odd x ≡ true → IsFrom x x 1
-  from_odd x l o = record { low = l; odd = o; small = omega arith; is = offset-one side even four x l o }
+  from_odd x l o = record { low = l; odd = o; small = omega arith; is = offset-one x l o }
 
   from_even : (x : ℕ) → x < side → is_odd x ≡ false → IsFrom x (x + 1) 0
   from_even x l o =
       let e : x % 2 ≢ 1 = λ q. false≢true (sym o ∙ eq-eqb (x % 2) 1 q) in
       let low : x + 1 < side = omega (arith, e, even, l) in
       let odd : is_odd (x + 1) ≡ true = eq-eqb ((x + 1) % 2) 1 (omega (arith, e)) in
-      record { low = low; odd = odd; small = omega arith; is = offset-zero side even four (x + 1) low odd ∙ omega arith }
+      record { low = low; odd = odd; small = omega arith; is = offset-zero (x + 1) low odd ∙ omega arith }
 
   from_coordinate : (x : ℕ) → x < side → (base : ℕ) × ((a : ℕ) × IsFrom x base a)
   from_coordinate x l = by_test (is_odd x) refl
@@ -130,59 +240,34 @@ module _ (side : ℕ) (even : side % 2 ≡ 0) (four : 4 ≤ side) where
       by_test true o = (x, (1, from_odd x l o))
       by_test false o = (x + 1, (0, from_even x l o))
 
-  -- a cell and the cell of the 3-cube that goes to it
-  record IsCovered (d c X Y Z s : ℕ) : Type 0 where
-    pub base : IsBase side even four X Y Z
-    pub cell : part d s
-    pub is : c ≡ φ X Y Z base d s
+  -- a tuple lies at offsets from some odd coordinates
+  record IsAt (n : ℕ) (t bs xs : List ℕ) : Type 0 where
+    pub bases : AreBases n bs
+    pub small : AreBelow 3 n xs
+    pub is : t ≡ offsets bs xs
 
-  covered_at : (d c X Y Z a b e : ℕ) → 1 ≤ c → c ≤ count (whole side) d → (place : ℕ) → IsSpot side big_some d c place → IsFrom (place / (side * side)) X a → IsFrom (place % (side * side) / side) Y b → IsFrom (place % (side * side) % side) Z e
-      → IsCovered d c X Y Z (number_at 3 (a * (3 * 3) + (b * 3 + e)))
-  covered_at d c X Y Z a b e low high place s fx fy fz =
-      let base : IsBase side even four X Y Z = record { x-low = fx.low; y-low = fy.low; z-low = fz.low; x-odd = fx.odd; y-odd = fy.odd; z-odd = fz.odd } in
-      let q : ℕ = a * (3 * 3) + (b * 3 + e) in
-      let t : triple_at 3 (a * (3 * 3) + (b * 3 + e)) ≡ a ∷ b ∷ e ∷ [] = triple_of 3 a b e fy.small fz.small in
-      let inside : a * (3 * 3) + (b * 3 + e) < volume 3 = in_volume 3 0 three_some (omega arith) a b e fx.small fy.small fz.small in
-      let there : move X Y Z base q ≡ place =
-      shift-of side even four X Y Z base q a b e t
-      ∙ (ap (λ (n : ℕ). n * (side * side) + (offset side Y b * side + offset side Z e)) fx.is
-      ∙ (ap (λ (n : ℕ). place / (side * side) * (side * side) + (n * side + offset side Z e)) fy.is
-      ∙ (ap (λ (n : ℕ). place / (side * side) * (side * side) + (place % (side * side) / side * side + n)) fz.is ∙ sym (place_is side place)))) in
-      let dim : dim_at 3 q ≡ d = sym (shift-dim side even four X Y Z base q inside) ∙ (ap (dim_at side) there ∙ s.dim) in
-      let n : IsNumber 3 three_some d q (number_at 3 q) = is_number 3 three_some d q (dim-low side big_some d c low high) inside dim in
-      record {
-        base = base;
-        cell = (n.low, n.high);
-        is = sym (ap (λ (k : ℕ). number_at side (move X Y Z base k)) n.back ∙ (ap (number_at side) there ∙ s.number));
-      }
+  lies_at : {n : ℕ} {t : List ℕ} → AreBelow side n t → (bs : List ℕ) × ((xs : List ℕ) × IsAt n t bs xs)
+  lies_at no_more = ([], ([], record { bases = no_base; small = no_more; is = refl }))
+  lies_at (one_more {n} {c} {cs} l k) =
+      let f = from_coordinate c l in
+      let r = lies_at k in (
+        f.0 ∷ r.0,
+        (
+          f.1.0 ∷ r.1.0,
+          record {
+            bases = one_base f.1.1.low f.1.1.odd r.1.1.bases;
+            small = one_more f.1.1.small r.1.1.small;
+            is = ap (λ (d : ℕ). d ∷ cs) (sym f.1.1.is) ∙ ap (λ (ds : List ℕ). offset side f.0 f.1.0 ∷ ds) r.1.1.is;
+          },
+        ),
+      )
 
-  covered : (d c : ℕ) → 1 ≤ c → c ≤ count (whole side) d → (X : ℕ) × ((Y : ℕ) × ((Z : ℕ) × ((s : ℕ) × IsCovered d c X Y Z s)))
-  covered d c low high =
-      let s = is_spot side big_some d c low high in
-      let place : ℕ = get_or (passing (λ p. eqb (dim_at side p) d) (volume side)) (c - 1) 0 in
-      let x = from_coordinate (place / (side * side)) (x-below side place big_some s.below) in
-      let y = from_coordinate (place % (side * side) / side) (y-below side place big_some s.below) in
-      let z = from_coordinate (place % (side * side) % side) (z-below side place big_some s.below) in
-      (x.0, (y.0, (z.0, (number_at 3 (x.1.0 * (3 * 3) + (y.1.0 * 3 + z.1.0)), covered_at d c x.0 y.0 z.0 x.1.0 y.1.0 z.1.0 low high place s x.1.1 y.1.1 z.1.1))))
-
-  pub whole_regular : side ≤ 38 → IsRegular (whole side)
-  whole_regular m =
-      let hs : IsSpace (whole 3) = is_space 3 three_some three_turns (omega arith) in
-      let ho : IsSpace (whole side) = is_space side big_some (even_turns side even) m in
-      regular_from (whole side)
-      (λ e low high.
-      let r = covered 1 e low high in
-      let k = r.1.1.1.1 in
-      subst (λ (c : ℕ). two_ends (whole side) c ≡ true) (sym k.is) (edge_copied (whole 3) (whole side) part (φ r.0 r.1.0 r.1.1.0 k.base) hs ho (copy r.0 r.1.0 r.1.1.0 k.base) cube_regular r.1.1.1.0 k.cell))
-      (λ e low high.
-      let r = covered 2 e low high in
-      let k = r.1.1.1.1 in
-      subst (λ (c : ℕ). one_cycle (whole side) c ≡ true) (sym k.is) (disk_copied (whole 3) (whole side) part (φ r.0 r.1.0 r.1.1.0 k.base) hs ho (copy r.0 r.1.0 r.1.1.0 k.base) cube_regular r.1.1.1.0 k.cell))
-      (λ e low high.
-      let r = covered 3 e low high in
-      let k = r.1.1.1.1 in
-      subst (λ (c : ℕ). (each_twice (whole side) 2 (facets_of (whole side) 3 c) ≡ true) × (connected (whole side) 2 (facets_of (whole side) 3 c) ≡ true) × (is_spherical (whole side) c ≡ true)) (sym k.is)
-      (solid_copied (whole 3) (whole side) part (φ r.0 r.1.0 r.1.1.0 k.base) hs ho (copy r.0 r.1.0 r.1.1.0 k.base) cube_regular r.1.1.1.0 k.cell))
+  triples_regular : side ≤ 38 → IsRegular (space_of (facets_round side) (tuples 3 side))
+  triples_regular m =
+      regular_by_copies (facets_round 3) (tuples 3 3) (facets_round side) (tuples 3 side) (triple_space 3 three_turns (omega arith) (omega arith)) (triple_space side (even_turns side even) (omega (arith, four)) m) cube_regular
+      (λ t i l.
+      let r = lies_at (tuples-below side 3 t i) in
+      (offsets r.0, (r.1.0, record { moving = moving r.0 r.1.1.bases; among = below-tuples 3 r.1.1.small; is = r.1.1.is })))
 
 pub torus_regular : (size : ℕ) → 2 ≤ size → size ≤ 19 → IsRegular (torus_of size)
-torus_regular size low high = whole_regular (2 * size) (omega arith) (omega arith) (omega arith)
+torus_regular size low high = triples_regular (2 * size) (omega arith) (omega arith) (omega arith)
