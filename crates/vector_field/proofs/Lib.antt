@@ -6,3 +6,7 @@ pub mod MaximalTest
 pub mod Earlier
 pub mod Noted
 pub mod Marked
+pub mod Places
+pub mod InRange
+pub mod Unpaired
+pub mod Bad

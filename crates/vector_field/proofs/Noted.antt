@@ -5,8 +5,8 @@ use Rattle.std.specs.List.{list_any}
 use Rattle.std.proofs.lemmas.Bool.{eqb-true, eq-eqb, ne_eqb, and_parts, and_from, and_left, cases_Bool, cases_eq, false≢true, or_cases}
 use Rattle.std.proofs.lemmas.Option.{none-some, same_Some}
 use Rattle.face_poset.specs.declared.cells.Pair.{Pair}
-use Rattle.vector_field.specs.declared.pair_list.Partner.{Partner}
-use Rattle.vector_field.specs.declared.pair_list.Partner.TheVariants.{Critical, Upper, Lower}
+use Rattle.vector_field.specs.declared.partner.Partner.{Partner}
+use Rattle.vector_field.specs.declared.partner.Partner.TheVariants.{Critical, Upper, Lower}
 use Rattle.vector_field.specs.CellMaps.{at, row, IsPut}
 use Rattle.vector_field.specs.Pairs.{pair, has_lower, uses, is_used, IsPartner}
 use Rattle.vector_field.specs.Pairings.{has_upper, HasCell, lengths, IsNoted}

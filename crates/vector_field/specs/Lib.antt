@@ -5,3 +5,4 @@ pub mod Laws
 pub mod CellMaps
 pub mod Pairings
 pub mod Founds
+pub mod LastPlaces

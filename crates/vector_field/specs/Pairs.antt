@@ -8,8 +8,8 @@ use Rattle.face_poset.specs.Words.{upto, holds}
 use Rattle.face_poset.specs.Poset.{count, facets_of}
 use Rattle.vector_field.specs.declared.fault.PairFault.{PairFault}
 use Rattle.vector_field.specs.declared.fault.PairFault.TheVariants.{Bad, Memory}
-use Rattle.vector_field.specs.declared.pair_list.Partner.{Partner}
-use Rattle.vector_field.specs.declared.pair_list.Partner.TheVariants.{Critical, Upper, Lower}
+use Rattle.vector_field.specs.declared.partner.Partner.{Partner}
+use Rattle.vector_field.specs.declared.partner.Partner.TheVariants.{Critical, Upper, Lower}
 
 -- a cell and a coface by their numbers, where `dim` is the dimension of the cell
 abbrev pub pair : (dim lower upper : ℕ) → Pair

@@ -7,15 +7,18 @@
 #![tactic(auto)]
 
 mod cell_map;
+mod checking;
 mod fault;
 mod found;
 mod laws;
 mod pair_list;
 mod pairing;
+mod partner;
 
 
 pub use fault::PairFault;
 pub use laws::{
     added_pair_closes, maximal_is_exact, path_is_exact, substitution_ends, valid_closes_none,
 };
-pub use pair_list::{Partner};
+pub use pair_list::PairList;
+pub use partner::Partner;

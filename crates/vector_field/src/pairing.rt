@@ -5,7 +5,7 @@ ghost use Rattle.vector_field.specs.Pairings.{has_upper, HasCell, inserted};
 
 use crate::cell_map::CellMap;
 use crate::found::Found;
-use crate::pair_list::Partner;
+use crate::partner::Partner;
 use face_poset::{Graded, Pair};
 use std::alloc::{AllocError, Global};
 use std::marker::Model;
