@@ -10,3 +10,6 @@ pub mod Places
 pub mod InRange
 pub mod Unpaired
 pub mod Bad
+pub mod Led
+pub mod CofaceAt
+pub mod Fields

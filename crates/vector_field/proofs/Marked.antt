@@ -5,7 +5,9 @@ use Rattle.std.proofs.lemmas.Bool.{eqb-true, eq-eqb, false≢true, cases_eq, cas
 use Rattle.std.proofs.lemmas.Cmp.{nat_eq_equiv}
 use Rattle.std.proofs.lemmas.Map.Keys.{IsDistinct-push}
 use Rattle.std.proofs.lemmas.List.{get_or-replicate, length-set, get_or-set_same, get_or-set_other, length-replicate, drop_more, get_or_default}
-use Rattle.face_poset.specs.Words.{holds}
+use Rattle.std.proofs.lemmas.Map.Made.{length-le_from_is_member}
+use Rattle.face_poset.specs.Words.{holds, upto}
+use Rattle.face_poset.proofs.Members.{holds-upto, length-upto}
 use Rattle.vector_field.specs.Founds.{IsMarked}
 use Rattle.vector_field.proofs.Members.{In, In-cases, In-holds, holds-In, In-last, In-left, push-In, at-In, same_bool}
 
@@ -86,3 +88,11 @@ left-none marks h = record {
   within = λ n e. absurd (false≢true e);
   distinct = tt;
 }
+
+-- there are no more than the most
+pub few-found : (marks : List Bool) (found : List ℕ) → IsMarked marks found → length found ≤ length marks
+few-found marks found h =
+    let short : length found ≤ length (upto (length marks)) =
+        length-le_from_is_member nat_eq_equiv found (upto (length marks)) h.distinct
+        (λ q e. let w = h.within q (sym (any-holds found q) ∙ e) in any-holds (upto (length marks)) q ∙ holds-upto (length marks) q w.0 w.1) in
+    omega (arith, short, length-upto (length marks))

@@ -6,3 +6,4 @@ pub mod CellMaps
 pub mod Pairings
 pub mod Founds
 pub mod LastPlaces
+pub mod Searches

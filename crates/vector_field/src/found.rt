@@ -39,7 +39,8 @@ impl Found {
 
     /// How many were found.
     pub(crate) fn len(&self) -> usize
-        ensures { result ≡ length self.now.found }
+        ensures len { result ≡ length self.now.found }
+        ensures few { result ≤ self.now.most }
     {
         self.numbers.len()
     }

@@ -11,14 +11,16 @@ mod checking;
 mod fault;
 mod found;
 mod laws;
+mod maximal;
 mod pair_list;
 mod pairing;
 mod partner;
-
+mod search;
 
 pub use fault::PairFault;
 pub use laws::{
     added_pair_closes, maximal_is_exact, path_is_exact, substitution_ends, valid_closes_none,
 };
+pub use maximal::is_maximal;
 pub use pair_list::PairList;
 pub use partner::Partner;

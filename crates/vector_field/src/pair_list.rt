@@ -81,6 +81,13 @@ impl PairList {
         Ok(PairList { pairing, critical })
     }
 
+    /// The pairs with the partner of each cell.
+    pub(crate) fn pairing(&self) -> &Pairing
+        ensures { result.now ≡ self.now }
+    {
+        &self.pairing
+    }
+
     /// How many pairs there are.
     pub fn len(&self) -> u32
         ensures { result ≡ length self.now.pairs }
