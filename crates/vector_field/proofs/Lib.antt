@@ -13,3 +13,5 @@ pub mod Bad
 pub mod Led
 pub mod CofaceAt
 pub mod Fields
+pub mod Only
+pub mod Making

@@ -8,6 +8,7 @@
 
 mod cell_map;
 mod checking;
+mod faces;
 mod fault;
 mod found;
 mod laws;
@@ -15,6 +16,7 @@ mod maximal;
 mod pair_list;
 mod pairing;
 mod partner;
+mod rest;
 mod search;
 
 pub use fault::PairFault;
