@@ -15,3 +15,4 @@ pub mod CofaceAt
 pub mod Fields
 pub mod Only
 pub mod Making
+pub mod Inserted
