@@ -10,7 +10,7 @@ use Rattle.vector_field.specs.Pairs.{pair, others, is_used, is_incident, IsValid
 use Rattle.vector_field.specs.Paths.{Leads, arrived, along, leads_to, has_path}
 use Rattle.vector_field.specs.Pairings.{is_late, inserted}
 use Rattle.vector_field.specs.Searches.{IsLed}
-use Rattle.vector_field.proofs.Members.{In, here, there, In-cases, In-filter, filter-In, In-inside, In-left, In-right, append-In, any-In, In-Contains, Contains-In}
+use Rattle.vector_field.proofs.Members.{In, here, there, In-cases, In-filter, filter-In, In-inside, In-left, In-right, append-In, any-In, holds-In, In-Contains, Contains-In}
 use Rattle.vector_field.proofs.Lined.{Lined, lined-append, lined-filter, lined-two}
 use Rattle.vector_field.proofs.Valid.{Uses, Apart, apart-sym, Goes, IsLined, valid-from, lined-from, unused-In}
 use Rattle.vector_field.proofs.Paths.{leads-sound, leads-complete}
@@ -68,6 +68,19 @@ module _ (ps : List Pair) (p : Pair) (numbers : List ℕ) where
 
       both : filter (λ r. not (is_late p.dim numbers r)) ps ≡ ps → filter (is_late p.dim numbers) ps ≡ [] → inserted ps p numbers ≡ ps ++ p ∷ []
       both e f = ap (λ (qs : List Pair). qs ++ p ∷ filter (is_late p.dim numbers) ps) e ∙ ap (λ (qs : List Pair). ps ++ p ∷ qs) f
+
+-- where the lower of the new pair alone was found, no pair is late
+single : (xs : List ℕ) (x y : ℕ) → length xs ≡ 1 → holds xs x ≡ true → holds xs y ≡ true → x ≡ y
+single [] x y l e f = absurd (omega (arith, l))
+single (z ∷ []) x y l e f = elim (In-cases (holds-In (z ∷ []) e)) [ inl a ↦ elim (In-cases (holds-In (z ∷ []) f)) [ inl b ↦ a ∙ sym b | inr b ↦ elim b [ ] ] | inr a ↦ elim a [ ] ]
+single (z ∷ w ∷ ws) x y l e f = absurd (omega (arith, l))
+
+pub inserted_alone : (ps : List Pair) (p : Pair) (numbers : List ℕ) → length numbers ≡ 1 → holds numbers p.lower ≡ true → is_used ps p.dim p.lower ≡ false → inserted ps p numbers ≡ ps ++ p ∷ []
+inserted_alone ps p numbers l e u =
+    inserted-last ps p numbers
+    (λ q m k.
+    let b = and_parts (eqb q.dim p.dim) (holds numbers q.lower) k in
+    unused-In p.dim p.lower u m (inl (eqb-true q.dim p.dim b.0, single numbers q.lower p.lower l b.1 e)))
 
 -- ---- the order
 

@@ -16,3 +16,4 @@ pub mod Fields
 pub mod Only
 pub mod Making
 pub mod Inserted
+pub mod Settled

@@ -10,7 +10,9 @@ mod cell_map;
 mod checking;
 mod faces;
 mod fault;
+mod filling;
 mod found;
+mod free;
 mod laws;
 mod maximal;
 mod pair_list;
@@ -20,6 +22,7 @@ mod rest;
 mod search;
 
 pub use fault::PairFault;
+pub use free::free_field;
 pub use laws::{
     added_pair_closes, maximal_is_exact, path_is_exact, substitution_ends, valid_closes_none,
 };

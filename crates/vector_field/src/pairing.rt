@@ -1,5 +1,6 @@
-ghost use Rattle.std.specs.Prelude.{◌≡◌, ◌<◌, ◌≤◌, ◌+◌, ◌∷◌, ◌++◌, [], false, length, slice_index_or, MatchOption, Contains, IfOk, OnOk};
+ghost use Rattle.std.specs.Prelude.{◌≡◌, ◌<◌, ◌≤◌, ◌+◌, ◌∷◌, ◌++◌, [], true, false, length, slice_index_or, MatchOption, Contains, IfOk, OnOk};
 ghost use Rattle.std.specs.List.{list_any};
+ghost use Rattle.face_poset.specs.Words.{holds};
 ghost use Rattle.face_poset.specs.declared.cells.Pair.{Pair};
 ghost use Rattle.vector_field.specs.Pairs.{pair, has_lower, is_used, counts_of, IsPartner};
 ghost use Rattle.vector_field.specs.Pairings.{has_upper, HasCell, HasCells, inserted};
@@ -137,9 +138,14 @@ impl Pairing {
     ) -> Result<(), AllocError>
         requires cells { HasCells self.old.counts pair }
         requires lowers { (p : Pair) → Contains self.old.pairs p → p.dim ≡ pair.dim → (1 ≤ p.lower) × (p.lower ≤ found.now.most) }
+        requires unused { is_used self.old.pairs pair.dim pair.lower ≡ false }
+        requires found { holds found.now.found pair.lower ≡ true }
         ensures counts { self.new.counts ≡ self.old.counts }
         ensures pairs { OnOk result (self.new.pairs ≡ inserted self.old.pairs pair found.now.found) }
     {
+        if found.len() == 1 {
+            return self.push(pair);
+        }
         if self.pairs.len() >= 4_294_967_295 {
             return Err(AllocError);
         }
