@@ -60,8 +60,8 @@ module _ (space : List (List (List ℕ))) (pairs : List Pair) (valid : IsValid s
   none-closed p c h = omega (arith, falls p.dim p c refl p c refl (Contains-In h.other) h.leads)
 
   module _ (dim : ℕ) (known : ℕ → Bool)
-    (free : (p : Pair) (f : ℕ) → Contains pairs p → p.dim ≡ dim → Contains (others space p) f → list_any (has_lower dim f) pairs ≡ false → known f ≡ true)
-    (step : (p : Pair) → Contains pairs p → p.dim ≡ dim → ((f : ℕ) → Contains (others space p) f → known f ≡ true) → known p.lower ≡ true) where
+      (free : (p : Pair) (f : ℕ) → Contains pairs p → p.dim ≡ dim → Contains (others space p) f → list_any (has_lower dim f) pairs ≡ false → known f ≡ true)
+      (step : (p : Pair) → Contains pairs p → p.dim ≡ dim → ((f : ℕ) → Contains (others space p) f → known f ≡ true) → known p.lower ≡ true) where
     -- at all places below n
     below : (n : ℕ) (p : Pair) → (c : Contains pairs p) → c.0 < n → p.dim ≡ dim → known p.lower ≡ true
     below zero p c l d = absurd (omega arith)

@@ -85,7 +85,7 @@ inserted_alone ps p numbers l e u =
 -- ---- the order
 
 module _ (space : List (List (List ℕ))) (ps : List Pair) (dim a b : ℕ) (found : List ℕ) (valid : IsValid space ps)
-  (incident : is_incident space (pair dim a b) ≡ true) (unused : is_used ps dim a ≡ false) (free : is_used ps (dim + 1) b ≡ false) (pathless : has_path space ps dim b a ≡ false) (led : IsLed space ps dim a found) where
+    (incident : is_incident space (pair dim a b) ≡ true) (unused : is_used ps dim a ≡ false) (free : is_used ps (dim + 1) b ≡ false) (pathless : has_path space ps dim b a ≡ false) (led : IsLed space ps dim a found) where
   late : Pair → Bool
   late q = is_late dim found q
 

@@ -93,6 +93,6 @@ left-none marks h = record {
 pub few-found : (marks : List Bool) (found : List ℕ) → IsMarked marks found → length found ≤ length marks
 few-found marks found h =
     let short : length found ≤ length (upto (length marks)) =
-        length-le_from_is_member nat_eq_equiv found (upto (length marks)) h.distinct
-        (λ q e. let w = h.within q (sym (any-holds found q) ∙ e) in any-holds (upto (length marks)) q ∙ holds-upto (length marks) q w.0 w.1) in
+    length-le_from_is_member nat_eq_equiv found (upto (length marks)) h.distinct
+    (λ q e. let w = h.within q (sym (any-holds found q) ∙ e) in any-holds (upto (length marks)) q ∙ holds-upto (length marks) q w.0 w.1) in
     omega (arith, short, length-upto (length marks))

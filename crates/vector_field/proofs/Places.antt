@@ -35,9 +35,6 @@ place-more pairs n dim cell (Some i) ne h = (omega (arith, h.0), h.1, λ k a l. 
 not-lower : (p : Pair) (dim cell : ℕ) → ((p.dim ≡ dim) × (p.lower ≡ cell) → ⊥) → has_lower dim cell p ≡ false
 not-lower p dim cell k = false_from_ne_true (has_lower dim cell p) (λ e. k (has_lower-true p dim cell e))
 
-pub last-none : (space : List (List (List ℕ))) (pairs : List Pair) (last : List (List (Option ℕ))) → ((dim cell : ℕ) → at last dim cell ≡ None) → AreLast space pairs 0 last
-last-none space pairs last e dim cell d a b = subst (IsLastPlace pairs 0 dim cell) (sym (e dim cell)) (λ k l. absurd (omega arith))
-
 pub last-put : (space : List (List (List ℕ))) (pairs : List Pair) (n : ℕ) (p : Pair) (old new : List (List (Option ℕ))) → p ≡ pair_at pairs n → IsPut old p.dim p.lower n new → AreLast space pairs n old → AreLast space pairs (n + 1) new
 last-put space pairs n p old new e put h dim cell d a b =
     let w = put-at old p.dim p.lower n new dim cell a put in

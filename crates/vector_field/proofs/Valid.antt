@@ -29,6 +29,7 @@ apart-sym p q h = (lower, upper)
     lower : Uses q p.dim p.lower → ⊥
     lower (inl u) = h.0 (inl (sym u.0, sym u.1))
     lower (inr u) = h.1 (inl (sym u.0, sym u.1))
+
     upper : Uses q (p.dim + 1) p.upper → ⊥
     upper (inl u) = h.0 (inr (sym u.0, sym u.1))
     upper (inr u) = h.1 (inr (sym u.0, sym u.1))

@@ -29,3 +29,6 @@ pub use laws::{
 pub use maximal::is_maximal;
 pub use pair_list::PairList;
 pub use partner::Partner;
+
+#[cfg(test)]
+mod tests;

@@ -80,11 +80,13 @@ impl Pairing {
         self.lowers.get(dim + 1, cell)
     }
 
-    /// How a cell stands.
+    /// How a cell stands. A cell that is not there is in no pair.
     pub(crate) fn partner(&self, dim: u8, cell: u32) -> Partner
-        requires { HasCell self.now.counts dim cell }
         ensures { IsPartner self.now.pairs dim cell result }
     {
+        if !self.uppers.has(dim, cell) {
+            return Partner::Critical;
+        }
         match self.uppers.get(dim, cell) {
             Some(upper) => Partner::Upper(upper),
             None => match self.lowers.get(dim, cell) {

@@ -167,12 +167,7 @@ impl Rest {
 }
 
 /// For each of the cells from 1 to `most` of a dimension whether it is in no pair.
-fn unused(
-    alloc: Global,
-    pairing: &Pairing,
-    dim: u8,
-    most: u32,
-) -> Result<Vec<bool>, AllocError>
+fn unused(alloc: Global, pairing: &Pairing, dim: u8, most: u32) -> Result<Vec<bool>, AllocError>
     requires { (cell : ℕ) → 1 ≤ cell → cell ≤ most → HasCell pairing.now.counts dim cell }
     ensures len { IfOk result (λ cells. length cells.items ≡ most) }
     ensures left { IfOk result (λ cells. (cell : ℕ) → 1 ≤ cell → cell ≤ most → is_left cells.items cell ≡ not (is_used pairing.now.pairs dim cell)) }

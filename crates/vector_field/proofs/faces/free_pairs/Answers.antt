@@ -53,8 +53,12 @@ remove-requires-clause-first g c = (only_coface (g.G.Graded.space c.args.graded.
 
 pub remove-requires-clause-last : goal.remove-requires-clause-last
 remove-requires-clause-last g c =
-    omega (arith, (only_coface (g.G.Graded.space c.args.graded.now) c.args.dim c.in-Some.lower c.in-Some-only.upper c.next_free.new.self.cells c.cofaces.result.now c.cofaces.ensures.cofaces c.in-Some-only.ensures).last,
-    ap (λ (cs : List Bool). length cs) c.next_free.ensures.cells, c.loop-turn.invariant.1)
+    omega (
+      arith,
+      (only_coface (g.G.Graded.space c.args.graded.now) c.args.dim c.in-Some.lower c.in-Some-only.upper c.next_free.new.self.cells c.cofaces.result.now c.cofaces.ensures.cofaces c.in-Some-only.ensures).last,
+      ap (λ (cs : List Bool). length cs) c.next_free.ensures.cells,
+      c.loop-turn.invariant.1,
+    )
 
 pub remove-requires-clause-facets : goal.remove-requires-clause-facets
 remove-requires-clause-facets g c =

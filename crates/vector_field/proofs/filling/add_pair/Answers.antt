@@ -22,8 +22,8 @@ pub open_coface-requires-clause-field : goal.open_coface-requires-clause-field
 open_coface-requires-clause-field g c = pairing-of (g.G.Graded.space c.args.graded.now) c.args.dim c.args.pairing.now c.requires.field
 
 module _ (space : List (List (List ℕ))) (dim lower upper : ℕ) (field : Field) (found : List ℕ) (low : dim < 3) (first : 1 ≤ lower) (last : lower ≤ count space dim) (above : IsAbove space dim field)
-  (unused : is_used field.pairs dim lower ≡ false) (o : Option ℕ) (is : o ≡ Some upper)
-  (h : MatchOption o (list_all (is_settled space field.pairs dim lower) (cofaces_of space dim lower) ≡ true) (λ u. IsOpen space field.pairs dim lower u found)) where
+    (unused : is_used field.pairs dim lower ≡ false) (o : Option ℕ) (is : o ≡ Some upper)
+    (h : MatchOption o (list_all (is_settled space field.pairs dim lower) (cofaces_of space dim lower) ≡ true) (λ u. IsOpen space field.pairs dim lower u found)) where
   opened : IsOpen space field.pairs dim lower upper found
   opened = MatchOption-at_some (list_all (is_settled space field.pairs dim lower) (cofaces_of space dim lower) ≡ true) (λ u. IsOpen space field.pairs dim lower u found) upper is h
 

@@ -35,14 +35,14 @@ loop-index-preserved g c =
     elim c.if-not-is_used.branch [
       | then-not-is_used+in_ok-add_pair w ↦
           let t : IsFilled space dim (c.loop-index.index + 1) c.args.pairing.now c.if-not-is_used.pairing =
-              subst (IsFilled space dim (c.loop-index.index + 1) c.args.pairing.now) (sym w.pairing-is)
-              (turned space dim c.loop-index.index c.args.pairing.now old w.add_pair.new.pairing w.in_ok-add_pair.ensures.field c.loop-index.invariant.2 w.in_ok-add_pair.ensures.keeps c.loop-index.invariant.3 w.in_ok-add_pair.ensures.settled) in
+          subst (IsFilled space dim (c.loop-index.index + 1) c.args.pairing.now) (sym w.pairing-is)
+          (turned space dim c.loop-index.index c.args.pairing.now old w.add_pair.new.pairing w.in_ok-add_pair.ensures.field c.loop-index.invariant.2 w.in_ok-add_pair.ensures.keeps c.loop-index.invariant.3 w.in_ok-add_pair.ensures.settled) in
           (ap (λ (n : Numbers). n.most) w.found-is ∙ (w.add_pair.ensures.most ∙ c.loop-index.invariant.0), t.above, t.keeps, t.settled)
       | else-not-is_used w ↦
           let used : is_used old.pairs dim (c.loop-index.index + 1) ≡ true = sym c.is_used.ensures ∙ w.if-not-is_used.false in
           let t : IsFilled space dim (c.loop-index.index + 1) c.args.pairing.now c.if-not-is_used.pairing =
-              subst (IsFilled space dim (c.loop-index.index + 1) c.args.pairing.now) (sym w.pairing-is)
-              (turned space dim c.loop-index.index c.args.pairing.now old old c.loop-index.invariant.1 c.loop-index.invariant.2 (λ p m. m) c.loop-index.invariant.3
-              (or_left (is_used old.pairs dim (c.loop-index.index + 1)) (list_all (is_settled space old.pairs dim (c.loop-index.index + 1)) (cofaces_of space dim (c.loop-index.index + 1))) used)) in
+          subst (IsFilled space dim (c.loop-index.index + 1) c.args.pairing.now) (sym w.pairing-is)
+          (turned space dim c.loop-index.index c.args.pairing.now old old c.loop-index.invariant.1 c.loop-index.invariant.2 (λ p m. m) c.loop-index.invariant.3
+          (or_left (is_used old.pairs dim (c.loop-index.index + 1)) (list_all (is_settled space old.pairs dim (c.loop-index.index + 1)) (cofaces_of space dim (c.loop-index.index + 1))) used)) in
           (ap (λ (n : Numbers). n.most) w.found-is ∙ c.loop-index.invariant.0, t.above, t.keeps, t.settled)
     ]
