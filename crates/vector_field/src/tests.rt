@@ -53,16 +53,12 @@ fn judges_fields_of_the_circle(rt: HostRuntime) -> Result<(), Fail> {
         );
     }
     let plane = read(rt.alloc(), PLANE)?;
-    let not_incident = [pair(0, 2, 1), pair(0, 4, 2)];
-    assert_eq!(rt;
-        judge(rt.alloc(), &plane, &not_incident),
-        Err(PairFault::Bad(1))
-    );
-    let upper_again = [pair(0, 2, 1), pair(1, 1, 2)];
-    assert_eq!(rt;
-        judge(rt.alloc(), &plane, &upper_again),
-        Err(PairFault::Bad(1))
-    );
+    for second in [pair(0, 4, 2), pair(1, 1, 2)] {
+        assert_eq!(rt;
+            judge(rt.alloc(), &plane, &[pair(0, 2, 1), second]),
+            Err(PairFault::Bad(1))
+        );
+    }
     Ok(())
 }
 
@@ -80,13 +76,18 @@ fn tells_the_critical_cells_of_the_projective_plane(rt: HostRuntime) -> Result<(
         Ok(field) => {
             assert_eq!(rt; field.len(), 5);
             assert_eq!(rt; field.get(4), pair(1, 1, 2));
-            assert_eq!(rt; field.critical(0), [1].as_slice());
-            assert_eq!(rt; field.critical(1), [4].as_slice());
-            assert_eq!(rt; field.critical(2), [1].as_slice());
-            assert_eq!(rt; field.critical(4), [].as_slice());
-            assert_eq!(rt; field.partner(0, 4), Partner::Upper(3));
-            assert_eq!(rt; field.partner(1, 3), Partner::Lower(4));
-            assert_eq!(rt; field.partner(1, 4), Partner::Critical);
+            for (dim, cell) in [(0u8, 1u32), (1, 4), (2, 1)] {
+                assert_eq!(rt; field.critical(dim), [cell].as_slice());
+            }
+            let partners = [
+                (0u8, 4u32, Partner::Upper(3)),
+                (1, 3, Partner::Lower(4)),
+                (1, 4, Partner::Critical),
+                (4, 1, Partner::Critical),
+            ];
+            for (dim, cell, partner) in partners {
+                assert_eq!(rt; field.partner(dim, cell), partner);
+            }
             assert_eq!(rt; is_maximal(rt.alloc(), &plane, &field)?, true);
             Ok(())
         }
@@ -99,8 +100,8 @@ fn finds_a_maximal_field(rt: HostRuntime) -> Result<(), Fail> {
     let plane = read(rt.alloc(), PLANE)?;
     let field = free_field(rt.alloc(), &plane)?;
     assert_eq!(rt; is_maximal(rt.alloc(), &plane, &field)?, true);
-    assert_eq!(rt; field.critical(0).len(), 1);
-    assert_eq!(rt; field.critical(1).len(), 1);
-    assert_eq!(rt; field.critical(2).len(), 1);
+    for dim in 0..3u8 {
+        assert_eq!(rt; field.critical(dim).len(), 1, "dimension {dim}");
+    }
     Ok(())
 }
