@@ -1,18 +1,17 @@
 -- One pair more between those that are not late and those that are.
-use Rattle.std.proofs.Common.{◌≡◌, ◌≢◌, ◌⊎◌, inl, inr, ℕ, zero, suc, ◌+◌, ◌<◌, ◌≤◌, List, [], ◌∷◌, ◌++◌, Bool, true, false, cond, ◌&&◌, ◌||◌, not, eqb, filter, length, refl, ap, sym, ◌∙◌, subst, arith, Contains}
-use Rattle.std.specs.List.{list_all, list_any}
-use Rattle.std.proofs.lemmas.Bool.{false≢true, cases_Bool, both_ways, and_parts, and_from, eqb-true, eq-eqb, eqb-false, not-true, not_from_false, ne_eqb}
+use Rattle.std.proofs.Common.{◌≡◌, ◌⊎◌, inl, inr, ℕ, suc, ◌+◌, List, [], ◌∷◌, ◌++◌, Bool, true, false, cond, ◌&&◌, not, eqb, filter, length, refl, ap, sym, ◌∙◌, subst, arith}
+use Rattle.std.proofs.lemmas.Bool.{cases_Bool, both_ways, and_parts, and_from, eqb-true, eq-eqb, not-true, not_from_false}
 use Rattle.std.proofs.lemmas.List.{length-append}
 use Rattle.face_poset.specs.declared.cells.Pair.{Pair}
 use Rattle.face_poset.specs.Words.{holds}
-use Rattle.face_poset.specs.Poset.{count, facets_of, cofaces_of}
-use Rattle.vector_field.specs.Pairs.{pair, others, is_used, is_incident, IsValid}
+use Rattle.face_poset.specs.Poset.{facets_of}
+use Rattle.vector_field.specs.Pairs.{pair, is_used, is_incident, IsValid}
 use Rattle.vector_field.specs.Paths.{Leads, arrived, along, leads_to, has_path}
 use Rattle.vector_field.specs.Pairings.{is_late, inserted}
 use Rattle.vector_field.specs.Searches.{IsLed}
-use Rattle.vector_field.proofs.Members.{In, here, there, In-cases, In-filter, filter-In, In-inside, In-left, In-right, append-In, any-In, holds-In, In-Contains, Contains-In}
-use Rattle.vector_field.proofs.Lined.{Lined, lined-append, lined-filter, lined-two}
-use Rattle.vector_field.proofs.Valid.{Uses, Apart, apart-sym, Goes, IsLined, valid-from, lined-from, unused-In}
+use Rattle.vector_field.proofs.Members.{In, here, there, In-cases, In-filter, filter-In, In-inside, In-left, In-right, append-In, any-In, holds-In, In-Contains}
+use Rattle.vector_field.proofs.Lined.{lined-append, lined-filter, lined-two}
+use Rattle.vector_field.proofs.Valid.{Apart, apart-sym, Goes, IsLined, valid-from, lined-from, unused-In}
 use Rattle.vector_field.proofs.Paths.{leads-sound, leads-complete}
 
 -- ---- the members

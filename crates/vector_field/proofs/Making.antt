@@ -1,16 +1,15 @@
 -- Pairs of free faces, the last one made first, are in a valid order.
-use Rattle.std.proofs.Common.{◌≡◌, ◌≢◌, ◌⊎◌, inl, inr, ℕ, zero, suc, ◌+◌, ◌-◌, ◌<◌, ◌≤◌, List, [], ◌∷◌, ◌++◌, Bool, true, false, not, eqb, length, get_or, set, reverse, refl, ap, sym, ◌∙◌, subst, arith, Contains, All}
+use Rattle.std.proofs.Common.{◌≡◌, ◌≢◌, inl, inr, ℕ, ◌+◌, ◌-◌, ◌<◌, ◌≤◌, List, [], ◌∷◌, ◌++◌, Bool, true, false, not, eqb, length, get_or, set, reverse, ap, sym, ◌∙◌, subst, arith, All}
 use Rattle.std.proofs.lemmas.Bool.{false≢true, cases_eq, cases_lt, not-true}
-use Rattle.std.proofs.lemmas.List.{get_or-set_same, get_or-set_other, get_or_past, length-set}
+use Rattle.std.proofs.lemmas.List.{get_or-set_same, get_or-set_other, get_or_past}
 use Rattle.face_poset.specs.declared.cells.Pair.{Pair}
-use Rattle.face_poset.specs.Words.{holds}
 use Rattle.face_poset.specs.Poset.{count, facets_of, cofaces_of}
-use Rattle.vector_field.specs.Pairs.{pair, others, is_used, is_incident, Field, IsValid}
-use Rattle.vector_field.specs.Stages.{IsAbove, is_left, IsOnly}
-use Rattle.vector_field.proofs.Members.{In, here, there, In-cases, In-inside, In-holds, holds-In, In-left, In-last, push-In, append-In, In-Contains, Contains-In, reverse-In, at-In}
+use Rattle.vector_field.specs.Pairs.{pair, is_used, is_incident, IsValid}
+use Rattle.vector_field.specs.Stages.{is_left, IsOnly}
+use Rattle.vector_field.proofs.Members.{In, there, In-inside, In-holds, holds-In, In-left, push-In, append-In, reverse-In, at-In}
 use Rattle.vector_field.proofs.Lined.{Lined, lined-push, lined-append, lined-reverse}
 use Rattle.vector_field.proofs.Valid.{Uses, Apart, Goes, IsLined, valid-from, lined-from, unused-In}
-use Rattle.vector_field.proofs.MaximalTest.{Incident, incident-from, incident-coface, cofaces-In, In-cofaces, Coface}
+use Rattle.vector_field.proofs.MaximalTest.{incident-from, incident-coface, cofaces-In, In-cofaces, Coface}
 
 -- a cell that is left is there
 left-range : (cells : List Bool) (cell : ℕ) → is_left cells cell ≡ true → cell - 1 < length cells

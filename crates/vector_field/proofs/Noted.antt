@@ -1,18 +1,16 @@
 -- Notes of partners.
-use Rattle.std.proofs.Common.{◌≡◌, ◌≢◌, ◌⊎◌, inl, inr, ℕ, zero, suc, ◌+◌, ◌-◌, ◌<◌, ◌≤◌, List, [], ◌∷◌, ◌++◌, Bool, true, false, cond, ◌||◌, ◌&&◌, eqb, map, length, get_or, Option, Some, None, refl, ap, sym, ◌∙◌, subst, arith, Contains, MatchOption}
+use Rattle.std.proofs.Common.{◌≡◌, ◌⊎◌, inl, inr, ℕ, zero, suc, ◌+◌, ◌-◌, ◌≤◌, List, [], ◌∷◌, Bool, true, false, cond, ◌||◌, ◌&&◌, eqb, length, get_or, Option, Some, None, refl, ap, sym, ◌∙◌, subst, arith, Contains, MatchOption}
 use Rattle.std.specs.Prelude.{is_some}
 use Rattle.std.specs.List.{list_any}
-use Rattle.std.proofs.lemmas.Bool.{eqb-true, eq-eqb, ne_eqb, and_parts, and_from, and_left, cases_Bool, cases_eq, false≢true, or_cases, cases_lt}
+use Rattle.std.proofs.lemmas.Bool.{eqb-true, eq-eqb, and_parts, and_from, cases_Bool, cases_eq, cases_lt}
 use Rattle.std.proofs.lemmas.Option.{none-some, same_Some}
 use Rattle.std.proofs.lemmas.List.{get_or_past}
 use Rattle.face_poset.specs.declared.cells.Pair.{Pair}
-use Rattle.vector_field.specs.declared.partner.Partner.{Partner}
-use Rattle.vector_field.specs.declared.partner.Partner.TheVariants.{Critical, Upper, Lower}
 use Rattle.vector_field.specs.CellMaps.{at, row, IsPut}
-use Rattle.vector_field.specs.Pairs.{pair, has_lower, uses, is_used, IsPartner}
-use Rattle.vector_field.specs.Pairings.{has_upper, HasCell, lengths, IsNoted}
-use Rattle.vector_field.proofs.Members.{In, any-In, any-some, any-none, In-Contains, Contains-In, same_bool}
-use Rattle.vector_field.proofs.Valid.{Uses, has_lower-true, used-In, unused-from}
+use Rattle.vector_field.specs.Pairs.{pair, is_used}
+use Rattle.vector_field.specs.Pairings.{has_upper, lengths, IsNoted}
+use Rattle.vector_field.proofs.Members.{In, any-none, In-Contains, Contains-In}
+use Rattle.vector_field.proofs.Valid.{Uses, used-In, unused-from}
 
 -- how many cells a row is for
 pub length-row : (cells : List (List (Option ℕ))) (dim : ℕ) → get_or (lengths cells) dim 0 ≡ length (row cells dim)
@@ -106,15 +104,8 @@ module _ (ps : List Pair) (uppers lowers : List (List (Option ℕ))) (h : IsNote
 
 module _ (ps : List Pair) (uppers lowers : List (List (Option ℕ))) (h : IsNoted ps uppers lowers) where
   -- what the notes tell of the pairs
-  pub no_upper : (dim cell : ℕ) → at uppers dim cell ≡ None → list_any (has_lower dim cell) ps ≡ false
-  no_upper dim cell e = any-none (has_lower dim cell) ps (λ p m k. let l = has_lower-true p dim cell k in h.upper_all p (In-Contains m) (ap (λ (d : ℕ). at uppers d p.lower) l.0 ∙ (ap (λ (n : ℕ). at uppers dim n) l.1 ∙ e)))
-
   pub no_lower : (dim cell : ℕ) → at lowers (dim + 1) cell ≡ None → list_any (has_upper dim cell) ps ≡ false
   no_lower dim cell e = any-none (has_upper dim cell) ps (λ p m k. let l = has_upper-true p dim cell k in h.lower_all p (In-Contains m) (ap (λ (d : ℕ). at lowers (d + 1) p.upper) l.0 ∙ (ap (λ (n : ℕ). at lowers (dim + 1) n) l.1 ∙ e)))
-
-  pub upper_tells : (dim cell : ℕ) (o : Option ℕ) → 1 ≤ cell → o ≡ at uppers dim cell → MatchOption o (list_any (has_lower dim cell) ps ≡ false) (λ upper. Contains ps (pair dim cell upper))
-  upper_tells dim cell None low e = no_upper dim cell (sym e)
-  upper_tells dim cell (Some u) low e = h.upper_in dim cell u low (sym e)
 
   pub lower_tells : (dim cell : ℕ) (o : Option ℕ) → 1 ≤ cell → o ≡ at lowers (dim + 1) cell → MatchOption o (list_any (has_upper dim cell) ps ≡ false) (λ lower. Contains ps (pair dim lower cell))
   lower_tells dim cell None low e = no_lower dim cell (sym e)

@@ -1,16 +1,16 @@
 -- What is settled stays settled when pairs are added.
-use Rattle.std.proofs.Common.{◌≡◌, ◌⊎◌, inl, inr, ℕ, zero, suc, ◌+◌, ◌<◌, ◌≤◌, List, Bool, true, false, ◌||◌, length, ap, sym, ◌∙◌, subst, arith, Contains}
+use Rattle.std.proofs.Common.{◌≡◌, inl, inr, ℕ, zero, suc, ◌+◌, List, true, false, ◌||◌, subst, arith, Contains}
 use Rattle.std.specs.List.{list_all}
 use Rattle.std.proofs.lemmas.Bool.{or_cases, or_left, or_right, both_ways, cases_lt}
 use Rattle.face_poset.specs.declared.cells.Pair.{Pair}
 use Rattle.face_poset.specs.Poset.{count, cofaces_of}
-use Rattle.vector_field.specs.Pairs.{pair, is_used, is_incident, Field, IsFieldOf}
+use Rattle.vector_field.specs.Pairs.{pair, is_used, Field, IsFieldOf}
 use Rattle.vector_field.specs.Pairings.{HasCells, IsPairing}
 use Rattle.vector_field.specs.Paths.{GradientPath, has_path}
 use Rattle.vector_field.specs.Maximal.{IsMaximal, is_settled}
 use Rattle.vector_field.specs.Stages.{IsAbove, Keeps, AreSettled}
 use Rattle.vector_field.proofs.Members.{In, In-all, all-In, In-Contains, Contains-In}
-use Rattle.vector_field.proofs.Valid.{IsLined, lined-from, used-more}
+use Rattle.vector_field.proofs.Valid.{lined-from, used-more}
 use Rattle.vector_field.proofs.Paths.{path_is_exact, path-more}
 use Rattle.vector_field.proofs.MaximalTest.{Incident, incident-true, In-cofaces}
 use Rattle.vector_field.proofs.InRange.{has_cell}

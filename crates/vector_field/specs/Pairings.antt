@@ -2,7 +2,6 @@
 use Rattle.std.specs.Prelude.{◌≡◌, ℕ, ◌+◌, ◌≤◌, ◌<◌, ◌&&◌, ◌==◌, List, ◌∷◌, ◌++◌, length, map, filter, not, Bool, slice_index, true, Contains, Option, Some, None}
 use Rattle.face_poset.specs.declared.cells.Pair.{Pair}
 use Rattle.face_poset.specs.Words.{holds}
-use Rattle.face_poset.specs.Poset.{count, facets_of}
 use Rattle.vector_field.specs.CellMaps.{at}
 use Rattle.vector_field.specs.Pairs.{pair, Field, counts_of, is_incident}
 

@@ -1,9 +1,9 @@
 -- How a maximal field is found, dimension by dimension from above.
-use Rattle.std.specs.Prelude.{◌≡◌, ℕ, ◌+◌, ◌-◌, ◌≤◌, ◌||◌, ◌&&◌, ◌==◌, List, [], ◌∷◌, ◌++◌, not, filter, length, slice_index_or, Bool, true, false, Contains, All}
+use Rattle.std.specs.Prelude.{◌≡◌, ℕ, ◌-◌, ◌≤◌, ◌||◌, List, slice_index_or, Bool, true, false, Contains}
 use Rattle.std.specs.List.{list_all}
 use Rattle.face_poset.specs.declared.cells.Pair.{Pair}
 use Rattle.face_poset.specs.Words.{holds}
-use Rattle.face_poset.specs.Poset.{count, cofaces_of}
+use Rattle.face_poset.specs.Poset.{cofaces_of}
 use Rattle.vector_field.specs.Pairs.{Field, counts_of, is_used, IsValid}
 use Rattle.vector_field.specs.Maximal.{is_settled}
 

@@ -2,7 +2,7 @@ ghost use Rattle.std.specs.Prelude.{◌≡◌, ◌<◌, ◌≤◌, ◌+◌, ◌�
 ghost use Rattle.std.specs.List.{list_any};
 ghost use Rattle.face_poset.specs.Words.{holds};
 ghost use Rattle.face_poset.specs.declared.cells.Pair.{Pair};
-ghost use Rattle.vector_field.specs.Pairs.{pair, has_lower, is_used, counts_of, IsPartner};
+ghost use Rattle.vector_field.specs.Pairs.{pair, is_used, counts_of, IsPartner};
 ghost use Rattle.vector_field.specs.Pairings.{has_upper, HasCell, HasCells, inserted};
 
 use crate::cell_map::CellMap;
@@ -61,14 +61,6 @@ impl Pairing {
         ensures { result ≡ slice_index_or self.now.pairs index result }
     {
         self.pairs[index as usize]
-    }
-
-    /// The upper of the pair with this lower, if there is one.
-    fn upper_of(&self, dim: u8, cell: u32) -> Option<u32>
-        requires { HasCell self.now.counts dim cell }
-        ensures { MatchOption result (list_any (has_lower dim cell) self.now.pairs ≡ false) (λ upper. Contains self.now.pairs (pair dim cell upper)) }
-    {
-        self.uppers.get(dim, cell)
     }
 
     /// The lower, of dimension `dim`, of the pair with this upper, if there is one.

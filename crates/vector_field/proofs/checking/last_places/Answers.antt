@@ -1,4 +1,4 @@
-use Rattle.std.proofs.Common.{◌≡◌, ℕ, ◌+◌, List, Option, ap, sym, ◌∙◌, subst, refl}
+use Rattle.std.proofs.Common.{ℕ, ◌+◌, List, ap, sym, ◌∙◌, subst, refl}
 use Rattle.vector_field.specs.LastPlaces.{pair_at, AreLast}
 use Rattle.vector_field.specs.Pairings.{lengths}
 use Rattle.vector_field.proofs.Places.{last-put, last-skip}

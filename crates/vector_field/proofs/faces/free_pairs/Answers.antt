@@ -1,11 +1,11 @@
-use Rattle.std.proofs.Common.{◌≡◌, ◌⊎◌, inl, inr, ℕ, ◌+◌, ◌-◌, ◌<◌, ◌≤◌, List, [], ◌∷◌, ◌++◌, Bool, true, false, length, set, reverse, refl, ap, sym, ◌∙◌, subst, arith, Contains, All}
+use Rattle.std.proofs.Common.{◌≡◌, ℕ, ◌+◌, ◌-◌, ◌<◌, ◌≤◌, List, [], ◌∷◌, ◌++◌, Bool, true, false, length, set, ap, sym, ◌∙◌, subst, arith, All}
 use Rattle.std.proofs.lemmas.List.{length-set}
 use Rattle.face_poset.specs.declared.cells.Pair.{Pair}
 use Rattle.face_poset.specs.Words.{holds}
 use Rattle.face_poset.specs.Poset.{count, facets_of, cofaces_of, IsSpace}
 use Rattle.vector_field.specs.Pairs.{pair, IsValid}
 use Rattle.vector_field.specs.Stages.{Left, IsOnly}
-use Rattle.vector_field.proofs.Members.{In, holds-In, Contains-In, In-Contains}
+use Rattle.vector_field.proofs.Members.{In, holds-In, In-Contains}
 use Rattle.vector_field.proofs.MaximalTest.{Coface, cofaces-In}
 use Rattle.vector_field.proofs.InRange.{facet-range}
 use Rattle.vector_field.proofs.Making.{IsMaking, making_begun, making_less, making_more, making_done, dims-reverse}

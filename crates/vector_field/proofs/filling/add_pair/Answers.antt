@@ -1,4 +1,4 @@
-use Rattle.std.proofs.Common.{◌≡◌, ◌⊎◌, inl, inr, ℕ, ◌+◌, ◌<◌, ◌≤◌, List, Bool, true, false, Option, Some, None, MatchOption, refl, ap, sym, ◌∙◌, subst, arith, Contains}
+use Rattle.std.proofs.Common.{◌≡◌, inl, inr, ℕ, ◌<◌, ◌≤◌, List, true, false, Option, Some, MatchOption, ap, sym, ◌∙◌, subst, arith, Contains}
 use Rattle.std.specs.List.{list_all}
 use Rattle.std.proofs.lemmas.Option.{MatchOption-at_some}
 use Rattle.std.proofs.lemmas.Result.{on_ok_weaker}
@@ -7,11 +7,11 @@ use Rattle.face_poset.specs.Words.{holds}
 use Rattle.face_poset.specs.Poset.{count, cofaces_of}
 use Rattle.vector_field.specs.Pairs.{pair, is_used, Field, IsValid}
 use Rattle.vector_field.specs.Pairings.{HasCells, inserted}
-use Rattle.vector_field.specs.Paths.{Leads, arrived}
+use Rattle.vector_field.specs.Paths.{arrived}
 use Rattle.vector_field.specs.Maximal.{is_settled}
-use Rattle.vector_field.specs.Searches.{IsLed, IsOpen}
+use Rattle.vector_field.specs.Searches.{IsOpen}
 use Rattle.vector_field.specs.Stages.{IsAbove, Keeps}
-use Rattle.vector_field.proofs.Members.{In, holds-In, In-Contains, Contains-In}
+use Rattle.vector_field.proofs.Members.{holds-In, In-Contains, Contains-In}
 use Rattle.vector_field.proofs.Paths.{leads-complete}
 use Rattle.vector_field.proofs.MaximalTest.{Incident, incident-from, incident-coface}
 use Rattle.vector_field.proofs.Inserted.{inserted-kept, inserted-only, inserted-valid}

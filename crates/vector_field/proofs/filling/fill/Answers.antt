@@ -1,8 +1,8 @@
-use Rattle.std.proofs.Common.{◌≡◌, ℕ, ◌+◌, List, Bool, true, ◌||◌, ap, sym, ◌∙◌, subst, Contains}
+use Rattle.std.proofs.Common.{◌≡◌, ℕ, ◌+◌, List, Bool, true, ◌||◌, ap, sym, ◌∙◌, subst}
 use Rattle.std.specs.List.{list_all}
 use Rattle.std.proofs.lemmas.Bool.{or_left}
 use Rattle.face_poset.specs.declared.cells.Pair.{Pair}
-use Rattle.face_poset.specs.Poset.{count, cofaces_of}
+use Rattle.face_poset.specs.Poset.{cofaces_of}
 use Rattle.vector_field.specs.Pairs.{is_used, Field}
 use Rattle.vector_field.specs.Founds.{Numbers}
 use Rattle.vector_field.specs.Maximal.{is_settled}

@@ -1,10 +1,10 @@
-use Rattle.std.proofs.Common.{◌≡◌, ◌⊎◌, inl, inr, ℕ, ◌+◌, ◌≤◌, List, ◌++◌, ap, sym, ◌∙◌, subst, arith, Contains, All}
+use Rattle.std.proofs.Common.{◌≡◌, inl, inr, ℕ, ◌+◌, ◌≤◌, List, ◌++◌, ap, sym, ◌∙◌, subst, arith, Contains, All}
 use Rattle.face_poset.specs.declared.cells.Pair.{Pair}
 use Rattle.vector_field.specs.Pairs.{Field, IsValid}
 use Rattle.vector_field.specs.Pairings.{HasCells}
 use Rattle.vector_field.specs.Stages.{IsAbove}
-use Rattle.vector_field.proofs.Members.{In, append-In, In-right, In-Contains, Contains-In}
-use Rattle.vector_field.proofs.Valid.{IsLined, lined-from}
+use Rattle.vector_field.proofs.Members.{append-In, In-right, In-Contains, Contains-In}
+use Rattle.vector_field.proofs.Valid.{lined-from}
 use Rattle.vector_field.proofs.MaximalTest.{incident-true}
 use Rattle.vector_field.proofs.Settled.{has_cells}
 use Rattle.vector_field.proofs.free.pair_dimension.Goals as goal

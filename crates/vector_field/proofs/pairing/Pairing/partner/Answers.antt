@@ -1,8 +1,7 @@
-use Rattle.std.proofs.Common.{◌≡◌, ℕ, ◌+◌, ◌≤◌, length, get_or, arith, List, false, ap, sym, ◌∙◌, subst, Contains}
+use Rattle.std.proofs.Common.{◌≡◌, ℕ, ◌+◌, get_or, arith, List, false, ap, sym, ◌∙◌, subst, Contains}
 use Rattle.face_poset.specs.declared.cells.Pair.{Pair}
 use Rattle.vector_field.specs.Pairs.{pair, is_used, Field}
 use Rattle.std.proofs.lemmas.Bool.{false≢true}
-use Rattle.vector_field.specs.CellMaps.{row}
 use Rattle.vector_field.proofs.Noted.{lower_above, unused, unused_past, length-row}
 use Rattle.vector_field.proofs.pairing.Pairing.partner.Goals as goal
 

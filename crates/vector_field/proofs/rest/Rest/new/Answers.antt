@@ -1,4 +1,4 @@
-use Rattle.std.proofs.Common.{◌≡◌, ℕ, ◌+◌, ◌≤◌, List, Bool, true, length, ap, sym, ◌∙◌, subst, arith}
+use Rattle.std.proofs.Common.{◌≡◌, ℕ, ◌+◌, List, Bool, true, length, ap, subst, arith}
 use Rattle.face_poset.specs.Words.{holds}
 use Rattle.face_poset.specs.Poset.{cofaces_of}
 use Rattle.vector_field.proofs.Members.{holds-In}
