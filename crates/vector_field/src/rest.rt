@@ -18,6 +18,8 @@ pub(crate) struct Rest {
     shared: Vec<u32>,
     /// Facets that were a facet of one cell alone when they were put here.
     free: Vec<u32>,
+    /// How many of these were handed out.
+    taken: usize,
     /// No cell before this index is left.
     least: usize,
 }
@@ -54,6 +56,7 @@ impl Rest {
             cells,
             shared,
             free: Vec::new(alloc),
+            taken: 0,
             least: 0,
         };
         for index in 0..graded.cells(dim) {
@@ -92,13 +95,18 @@ impl Rest {
         self.cells[cell as usize - 1]
     }
 
-    /// A facet that may be a facet of one cell alone.
+    /// A facet that may be a facet of one cell alone, those that came first before the others.
     pub(crate) fn next_free(&mut self) -> Option<u32>
         ensures most { self.new.most ≡ self.old.most }
         ensures cells { self.new.cells ≡ self.old.cells }
         ensures facet { IfSome result (λ f. (1 ≤ f) × (f ≤ self.old.most)) }
     {
-        self.free.pop()
+        if self.taken >= self.free.len() {
+            return None;
+        }
+        let facet = self.free[self.taken];
+        self.taken += 1;
+        Some(facet)
     }
 
     /// The least cell that is left, if there is one.
