@@ -1,0 +1,15 @@
+pub mod Members
+pub mod Lined
+pub mod Valid
+pub mod Paths
+pub mod MaximalTest
+pub mod Earlier
+pub mod Noted
+pub mod Marked
+pub mod Places
+pub mod InRange
+pub mod Unpaired
+pub mod Bad
+pub mod Led
+pub mod CofaceAt
+pub mod Fields

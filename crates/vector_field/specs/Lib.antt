@@ -1,0 +1,9 @@
+pub mod Pairs
+pub mod Paths
+pub mod Maximal
+pub mod Laws
+pub mod CellMaps
+pub mod Pairings
+pub mod Founds
+pub mod LastPlaces
+pub mod Searches

@@ -1,0 +1,44 @@
+-- Pairs with a note at each cell of the one that it is paired with.
+use Rattle.std.specs.Prelude.{◌≡◌, ℕ, ◌+◌, ◌≤◌, ◌<◌, ◌&&◌, ◌==◌, List, ◌∷◌, ◌++◌, length, map, filter, not, Bool, slice_index, true, Contains, Option, Some, None}
+use Rattle.face_poset.specs.declared.cells.Pair.{Pair}
+use Rattle.face_poset.specs.Words.{holds}
+use Rattle.face_poset.specs.Poset.{count, facets_of}
+use Rattle.vector_field.specs.CellMaps.{at}
+use Rattle.vector_field.specs.Pairs.{pair, Field, counts_of, is_incident}
+
+-- the cell is the upper of the pair, whose lower has this dimension
+abbrev pub has_upper : (dim cell : ℕ) → Pair → Bool
+has_upper dim cell p = (p.dim == dim) && (p.upper == cell)
+
+-- there is such a cell
+abbrev pub HasCell : (counts : List ℕ) → (dim cell : ℕ) → Type 0
+HasCell counts dim cell = (1 ≤ cell) × (cell ≤ slice_index counts dim)
+
+-- how many cells the rows are for
+abbrev pub lengths : List (List (Option ℕ)) → List ℕ
+lengths cells = map (λ r. length r) cells
+
+-- at each lower of a pair its upper is noted, and at each upper its lower, and nothing else
+pub record IsNoted (pairs : List Pair) (uppers lowers : List (List (Option ℕ))) : Type 0 where
+  pub few : length pairs ≤ 4294967295
+  pub same : lengths lowers ≡ lengths uppers
+  pub first : (p : Pair) → Contains pairs p → (1 ≤ p.lower) × (1 ≤ p.upper)
+  pub upper_in : (d n u : ℕ) → 1 ≤ n → at uppers d n ≡ Some u → Contains pairs (pair d n u)
+  pub upper_all : (p : Pair) → Contains pairs p → at uppers p.dim p.lower ≡ None → ⊥
+  pub lower_in : (d n l : ℕ) → 1 ≤ n → at lowers (d + 1) n ≡ Some l → Contains pairs (pair d l n)
+  pub lower_all : (p : Pair) → Contains pairs p → at lowers (p.dim + 1) p.upper ≡ None → ⊥
+  pub bottom : (n : ℕ) → 1 ≤ n → at lowers 0 n ≡ None
+
+-- pairs of a graded set, no upper in two of them
+pub record IsPairing (space : List (List (List ℕ))) (field : Field) : Type 0 where
+  pub counts : field.counts ≡ counts_of space
+  pub incident : (p : Pair) → Contains field.pairs p → is_incident space p ≡ true
+  pub one_lower : (p q : Pair) → Contains field.pairs p → Contains field.pairs q → p.dim ≡ q.dim → p.upper ≡ q.upper → p ≡ q
+
+-- the pair has this dimension and its lower is in the list
+abbrev pub is_late : (dim : ℕ) → (numbers : List ℕ) → Pair → Bool
+is_late dim numbers p = (p.dim == dim) && holds numbers p.lower
+
+-- a pair is put between those that are late, which come first in a list that is read backward, and the others
+abbrev pub inserted : List Pair → Pair → (numbers : List ℕ) → List Pair
+inserted pairs p numbers = filter (is_late p.dim numbers) pairs ++ p ∷ filter (λ q. not (is_late p.dim numbers q)) pairs

@@ -1,0 +1,127 @@
+ghost use Rattle.std.specs.Prelude.{◌≡◌, ◌<◌, ◌+◌, ◌∷◌, ◌++◌, [], false, length, reverse, slice_index_or, MatchOption, Contains, IfOk, OnOk};
+ghost use Rattle.std.specs.List.{list_any};
+ghost use Rattle.vector_field.specs.Pairs.{pair, has_lower, is_used, counts_of, IsPartner};
+ghost use Rattle.vector_field.specs.Pairings.{has_upper, HasCell, inserted};
+
+use crate::cell_map::CellMap;
+use crate::found::Found;
+use crate::partner::Partner;
+use face_poset::{Graded, Pair};
+use std::alloc::{AllocError, Global};
+use std::marker::Model;
+
+/// Pairs of cells of a graded set, with a note at each cell of the one that it is paired with. Contracts
+/// see them as the list of pairs with the numbers of cells.
+#[derive(Drop)]
+pub(crate) struct Pairing {
+    pairs: Vec<Pair>,
+    uppers: CellMap,
+    lowers: CellMap,
+}
+
+impl Model for Pairing {
+    ghost use Rattle.vector_field.specs.Pairs.{Field};
+
+    ghost Value = { Field };
+
+    ghost use Rattle.vector_field.specs.Pairings.{lengths, IsNoted};
+
+    ghost view = { λ s. record { pairs = s.pairs.items; counts = lengths s.uppers } };
+
+    ghost invariant = { λ s. IsNoted s.pairs.items s.uppers s.lowers };
+}
+
+impl Pairing {
+    /// No pair yet of cells of the graded set.
+    pub(crate) fn new<G: Graded>(alloc: Global, graded: &G) -> Result<Pairing, AllocError>
+        ensures pairs { IfOk result (λ field. field.pairs ≡ []) }
+        ensures counts { IfOk result (λ field. field.counts ≡ counts_of (G.space graded.now)) }
+    {
+        let uppers = CellMap::new(alloc, graded)?;
+        let lowers = CellMap::new(alloc, graded)?;
+        Ok(Pairing {
+            pairs: Vec::new(alloc),
+            uppers,
+            lowers,
+        })
+    }
+
+    /// How many pairs there are.
+    pub(crate) fn len(&self) -> u32
+        ensures { result ≡ length self.now.pairs }
+    {
+        self.pairs.len() as u32
+    }
+
+    /// The pair at an index, counted from 0.
+    pub(crate) fn get(&self, index: u32) -> Pair
+        requires { index < length self.now.pairs }
+        ensures { result ≡ slice_index_or self.now.pairs index result }
+    {
+        self.pairs[index as usize]
+    }
+
+    /// The upper of the pair with this lower, if there is one.
+    fn upper_of(&self, dim: u8, cell: u32) -> Option<u32>
+        requires { HasCell self.now.counts dim cell }
+        ensures { MatchOption result (list_any (has_lower dim cell) self.now.pairs ≡ false) (λ upper. Contains self.now.pairs (pair dim cell upper)) }
+    {
+        self.uppers.get(dim, cell)
+    }
+
+    /// The lower, of dimension `dim`, of the pair with this upper, if there is one.
+    pub(crate) fn lower_of(&self, dim: u8, cell: u32) -> Option<u32>
+        requires dim { dim < 3 }
+        requires cell { HasCell self.now.counts (dim + 1) cell }
+        ensures { MatchOption result (list_any (has_upper dim cell) self.now.pairs ≡ false) (λ lower. Contains self.now.pairs (pair dim lower cell)) }
+    {
+        self.lowers.get(dim + 1, cell)
+    }
+
+    /// How a cell stands.
+    pub(crate) fn partner(&self, dim: u8, cell: u32) -> Partner
+        requires { HasCell self.now.counts dim cell }
+        ensures { IsPartner self.now.pairs dim cell result }
+    {
+        match self.uppers.get(dim, cell) {
+            Some(upper) => Partner::Upper(upper),
+            None => match self.lowers.get(dim, cell) {
+                Some(lower) => Partner::Lower(lower),
+                None => Partner::Critical,
+            },
+        }
+    }
+
+    /// Whether a cell is in a pair.
+    pub(crate) fn is_used(&self, dim: u8, cell: u32) -> bool
+        requires { HasCell self.now.counts dim cell }
+        ensures { result ≡ is_used self.now.pairs dim cell }
+    {
+        self.uppers.get(dim, cell).is_some() || self.lowers.get(dim, cell).is_some()
+    }
+
+    /// Puts a pair last.
+    pub(crate) fn push(&mut self, pair: Pair) -> Result<(), AllocError>
+        requires dim { pair.dim < 3 }
+        requires lower { HasCell self.old.counts pair.dim pair.lower }
+        requires upper { HasCell self.old.counts (pair.dim + 1) pair.upper }
+        ensures counts { self.new.counts ≡ self.old.counts }
+        ensures pairs { OnOk result (self.new.pairs ≡ self.old.pairs ++ pair ∷ []) }
+    {
+        if self.pairs.len() >= 4_294_967_295 {
+            return Err(AllocError);
+        }
+        self.pairs.push(pair)?;
+        self.uppers.set(pair.dim, pair.lower, pair.upper);
+        self.lowers.set(pair.dim + 1, pair.upper, pair.lower);
+        Ok(())
+    }
+
+    /// Turns the order round.
+    pub(crate) fn reverse(&mut self)
+        ensures counts { self.new.counts ≡ self.old.counts }
+        ensures pairs { self.new.pairs ≡ reverse self.old.pairs }
+    {
+        self.pairs.reverse();
+    }
+}
