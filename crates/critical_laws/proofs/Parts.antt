@@ -6,7 +6,7 @@ use Rattle.linear_algebra.proofs.Dot.{zero_below, add_zero, mul_zero, mul_neg, d
 use Rattle.linear_algebra.proofs.Decide.{neg_neg, neg_of_sum}
 use Rattle.linear_algebra.proofs.Adjoint.{skip_left, skip_right}
 use Rattle.linear_algebra.proofs.Span.{combination-vector}
-use Rattle.critical_laws.specs.Kinds.{Kind, Critical, Lower, Upper, criticals, part, ZeroOnUppers, ZeroOnLowers, ZeroOffLowers, ZeroOffUppers, AgreeOnLowers, AgreeOnUppers}
+use Rattle.critical_laws.specs.Kinds.{Kind, Critical, Lower, Upper, criticals, part, spread, ZeroOnUppers, ZeroOnLowers, ZeroOffLowers, ZeroOffUppers, AgreeOnLowers, AgreeOnUppers}
 
 abbrev pub first_of : List ℕ → ℕ
 first_of [] = 0
@@ -51,14 +51,7 @@ none_low-zeros (Critical ∷ ts) (suc n) l = none_low-zeros ts n (omega (arith, 
 none_low-zeros (Lower ∷ ts) (suc n) l = (refl, none_low-zeros ts n (omega (arith, l)))
 none_low-zeros (Upper ∷ ts) (suc n) l = none_low-zeros ts n (omega (arith, l))
 
--- ---- the values on critical cells, and zero elsewhere
-
-abbrev pub spread : List Kind → List ℕ → List ℕ
-spread [] w = []
-spread (Critical ∷ ts) [] = 0 ∷ spread ts []
-spread (Critical ∷ ts) (x ∷ w) = x ∷ spread ts w
-spread (Lower ∷ ts) w = 0 ∷ spread ts w
-spread (Upper ∷ ts) w = 0 ∷ spread ts w
+-- ---- values for critical cells, and zero elsewhere
 
 pub spread_long : (ts : List Kind) (w : List ℕ) → length (spread ts w) ≡ length ts
 spread_long [] w = refl

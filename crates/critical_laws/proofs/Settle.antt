@@ -7,25 +7,7 @@ use Rattle.linear_algebra.proofs.Dot.{add_zero, mul_zero, dot_below, dot_comm}
 use Rattle.linear_algebra.proofs.Bump.{dot_bumped, column_entry}
 use Rattle.linear_algebra.proofs.Solve.{column_long, entry_below}
 use Rattle.linear_algebra.proofs.Span.{all_at}
-use Rattle.critical_laws.specs.Pairs.{Match, Triangular}
-
--- what has to be added at the lower, so that the coboundary at the upper is t there
-abbrev pub correction : Ops → List (List ℕ) → List ℕ → Match → List ℕ → ℕ
-correction k rows t p y = k.mul (k.add (get_or t p.upper 0) (k.neg (dot k y (column p.upper rows)))) (k.inv (entry rows p.lower p.upper))
-
--- the lowers one after the other, so that the coboundary at each upper is t there
-abbrev pub settle : Ops → List (List ℕ) → List ℕ → List Match → List ℕ → List ℕ
-settle k rows t [] y = y
-settle k rows t (p ∷ ps) y = settle k rows t ps (bump k y p.lower (correction k rows t p y))
-
--- what has to be added at the upper, so that the boundary at the lower is t there
-abbrev pub back_correction : Ops → List (List ℕ) → List ℕ → Match → List ℕ → ℕ
-back_correction k rows t p z = k.mul (k.add (get_or t p.lower 0) (k.neg (dot k (row_at rows p.lower) z))) (k.inv (entry rows p.lower p.upper))
-
--- the uppers one after the other, the last pair first
-abbrev pub carry : Ops → List (List ℕ) → List ℕ → List Match → List ℕ → List ℕ
-carry k rows t [] z = z
-carry k rows t (p ∷ ps) z = let r = carry k rows t ps z in bump k r p.upper (back_correction k rows t p r)
+use Rattle.critical_laws.specs.Pairs.{Match, Triangular, correction, settle, back_correction, carry}
 
 module _ (k : Ops) (f : IsField k) where
   -- a (t - d) / a added to d is t

@@ -5,7 +5,7 @@ use Rattle.linear_algebra.specs.Vectors.{dot, boundary, AreElements, IsVector, I
 use Rattle.linear_algebra.proofs.Dot.{dot_added, dot_comm, dot_below}
 use Rattle.linear_algebra.proofs.Adjoint.{adjoint, killed}
 use Rattle.linear_algebra.proofs.Span.{combination-vector, combination-plus, plus_scaled-vector}
-use Rattle.critical_laws.specs.Kinds.{Kind, criticals, part, ZeroOnUppers, ZeroOnLowers, ZeroOffLowers, ZeroOffUppers}
+use Rattle.critical_laws.specs.Kinds.{Kind, criticals, part, spread, ZeroOnUppers, ZeroOnLowers, ZeroOffLowers, ZeroOffUppers}
 use Rattle.critical_laws.specs.Split.{IsSplit}
 use Rattle.critical_laws.specs.Solutions.{IsExtension, IsFlow, IsCleared, without}
 use Rattle.critical_laws.proofs.Parts
@@ -55,7 +55,7 @@ module _ (k : Ops) (f : IsField k) where
 
     pub extension : (w : List ℕ) → IsVector k (criticals ts) w → (x : List ℕ) × IsExtension k n m rows ts us w x
     extension w v =
-        let e : List ℕ = Parts.spread ts w in
+        let e : List ℕ = spread ts w in
         let ve : IsVector k n e = record { long = Parts.spread_long ts w ∙ s.below; elements = Parts.spread_elements k f ts w v.elements } in
         let de : List ℕ = combination k m e rows in
         let vde : IsVector k m de = combination-vector k f m e rows s.matrix in
@@ -79,7 +79,7 @@ module _ (k : Ops) (f : IsField k) where
 
     pub flow : (c : List ℕ) → IsVector k (criticals us) c → (z : List ℕ) × IsFlow k n m rows ts us c z
     flow c v =
-        let e : List ℕ = Parts.spread us c in
+        let e : List ℕ = spread us c in
         let ve : IsVector k m e = record { long = Parts.spread_long us c ∙ s.above; elements = Parts.spread_elements k f us c v.elements } in
         let be : List ℕ = boundary k rows e in
         let vbe : IsVector k n be = boundary-vector n rows e s.long in

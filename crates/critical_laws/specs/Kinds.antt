@@ -1,9 +1,7 @@
 -- A split sorts the cells of each degree into critical ones, lowers and uppers. (Discrete Morse theory; R. Forman.)
 use Rattle.std.specs.Prelude.{◌≡◌, ⊤, ℕ, suc, List, [], ◌∷◌}
-
--- what a cell is in a split
-pub data Kind : Type 0 where
-  Critical Lower Upper : Kind
+pub use Rattle.critical_laws.specs.declared.kind.Kind.{Kind}
+pub use Rattle.critical_laws.specs.declared.kind.Kind.TheVariants.{Critical, Lower, Upper}
 
 -- how many critical cells there are
 abbrev pub criticals : List Kind → ℕ
@@ -66,6 +64,14 @@ AgreeOnUppers (t ∷ ts) (x ∷ xs) [] = ⊥
 AgreeOnUppers (Critical ∷ ts) (x ∷ xs) (y ∷ ys) = AgreeOnUppers ts xs ys
 AgreeOnUppers (Lower ∷ ts) (x ∷ xs) (y ∷ ys) = AgreeOnUppers ts xs ys
 AgreeOnUppers (Upper ∷ ts) (x ∷ xs) (y ∷ ys) = (x ≡ y) × AgreeOnUppers ts xs ys
+
+-- values for critical cells, and zero elsewhere
+abbrev pub spread : List Kind → List ℕ → List ℕ
+spread [] w = []
+spread (Critical ∷ ts) [] = 0 ∷ spread ts []
+spread (Critical ∷ ts) (x ∷ w) = x ∷ spread ts w
+spread (Lower ∷ ts) w = 0 ∷ spread ts w
+spread (Upper ∷ ts) w = 0 ∷ spread ts w
 
 -- no cell is an upper
 abbrev pub HasNoUpper : List Kind → Type 0

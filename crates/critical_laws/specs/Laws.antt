@@ -1,23 +1,31 @@
 -- What holds of splits. `F` is the arithmetic of a field.
-use Rattle.std.specs.Prelude.{◌≡◌, ℕ, suc, ◌+◌, ◌<◌, List, length, replicate}
+use Rattle.std.specs.Prelude.{◌≡◌, ℕ, suc, ◌+◌, List, length, replicate}
 use Rattle.std.specs.List.{AllByRecursion}
 use Rattle.small_field.specs.Field.{Ops}
-use Rattle.linear_algebra.specs.Vectors.{boundary, combination, dot, IsVector, IsMatrix, IsInKernel}
+use Rattle.linear_algebra.specs.Vectors.{boundary, combination, dot, IsVector, IsInKernel}
 use Rattle.linear_algebra.specs.Echelon.{IsReducedTo}
 use Rattle.linear_algebra.specs.Betti.{IsCohomologyBasis}
-use Rattle.critical_laws.specs.Kinds.{Kind, criticals, part}
+use Rattle.critical_laws.specs.Kinds.{Kind, criticals, part, ZeroOnUppers, ZeroOnLowers}
 use Rattle.critical_laws.specs.Split.{IsSplit}
 use Rattle.critical_laws.specs.Solutions.{IsExtension, AreExtensions, IsFlow, IsCleared, IsReducedBy, without}
-use Rattle.critical_laws.specs.Pairs.{Match, Triangular, KindsOf}
+use Rattle.critical_laws.specs.Pairs.{Match, IsMatching, settle, carry}
 use Rattle.critical_laws.specs.Complex.{IsSplitComplex, AreReduced}
 
 -- ---- one step
 
 -- the pairs of a field, in its order, give a split
 abbrev pub FieldsSplit : Ops → Type 0
-FieldsSplit F =
-    (n m : ℕ) (rows : List (List ℕ)) (ts us : List Kind) (ps : List Match) → IsMatrix F m rows → length rows ≡ n → length ts ≡ n → length us ≡ m
-    → Triangular rows ps → AllByRecursion (λ (p : Match). p.upper < m) ps → KindsOf ps ts us → IsSplit F n m rows ts us
+FieldsSplit F = (n m : ℕ) (rows : List (List ℕ)) (ts us : List Kind) (ps : List Match) → IsMatching F n m rows ts us ps → IsSplit F n m rows ts us
+
+-- and substitution along them solves: forward from any cochain with the values on critical cells that is zero on uppers; backward
+-- from any chain with the values that is zero on lowers; and forward from zero
+pub record SubstitutionSolves (F : Ops) : Type 0 where
+  pub extension : (n m : ℕ) (rows : List (List ℕ)) (ts us : List Kind) (ps : List Match) → IsMatching F n m rows ts us ps → (w y : List ℕ) → IsVector F n y → part ts y ≡ w → ZeroOnUppers ts y
+      → IsExtension F n m rows ts us w (settle F rows (replicate m 0) ps y)
+  pub flow : (n m : ℕ) (rows : List (List ℕ)) (ts us : List Kind) (ps : List Match) → IsMatching F n m rows ts us ps → (c z : List ℕ) → IsVector F m z → part us z ≡ c → ZeroOnLowers us z
+      → IsFlow F n m rows ts us c (carry F rows (replicate n 0) ps z)
+  pub clearing : (n m : ℕ) (rows : List (List ℕ)) (ts us : List Kind) (ps : List Match) → IsMatching F n m rows ts us ps → (x : List ℕ) → IsVector F m x
+      → (let y = settle F rows x ps (replicate n 0) in IsCleared F n m rows ts us x (part us (without F m rows x y)) y)
 
 -- exactly one list is such
 abbrev pub IsOne : (List ℕ → Type 0) → Type 0

@@ -7,14 +7,24 @@
 //! have the cohomology of the whole. Each law is the contract of a function with an empty body.
 #![tactic(auto)]
 
-ghost use Rattle.critical_laws.specs.Laws.{FieldsSplit, SolutionsAreOne, ExtensionsPair, ReducedRowsAreCoboundaries, ExtensionsCommute, ReducedIsClosed, FlowsCommute, CocyclesAreExtensions, BasesExtend, BettiByReducedRanks};
+mod kind;
+mod matching;
 
+ghost use Rattle.critical_laws.specs.Laws.{FieldsSplit, SubstitutionSolves, SolutionsAreOne, ExtensionsPair, ReducedRowsAreCoboundaries, ExtensionsCommute, ReducedIsClosed, FlowsCommute, CocyclesAreExtensions, BasesExtend, BettiByReducedRanks};
+
+pub use kind::Kind;
+pub use matching::Match;
 use small_field::Field;
 
 /// The pairs of a field give a split: in their order, in which the lowers of later pairs are not in
 /// the uppers of earlier ones, values on uppers settle forward, and values on lowers backward.
 pub fn fields_split<F: Field>()
     ensures { FieldsSplit F.ops }
+{}
+
+/// Substitution along the pairs of a field solves: forward for extensions and clearing, backward for flows.
+pub fn substitution_solves<F: Field>()
+    ensures { SubstitutionSolves F.ops }
 {}
 
 /// There is exactly one extension, one flow and one clearing.

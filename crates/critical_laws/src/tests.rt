@@ -4,6 +4,7 @@ use small_field::Gfp;
 /// Each law, asked of a field that is known by its bound alone.
 fn ask<F: Field>() {
     fields_split::<F>();
+    substitution_solves::<F>();
     solutions_are_one::<F>();
     extensions_pair::<F>();
     reduced_rows_are_coboundaries::<F>();
