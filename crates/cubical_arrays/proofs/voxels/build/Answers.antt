@@ -1,0 +1,4 @@
+use Rattle.cubical_arrays.proofs.voxels.build.Goals as goal
+
+pub returns : goal.returns
+returns c = ?
