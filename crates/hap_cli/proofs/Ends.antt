@@ -6,6 +6,8 @@ use Rattle.std.specs.Io.KnownBytes.{Appends, Keeps}
 use Rattle.std.proofs.lemmas.List.{take_all}
 use Rattle.face_poset.specs.declared.fault.SpaceFault.{SpaceFault}
 use Rattle.face_poset.specs.declared.fault.SpaceFault.TheVariants as in_space
+use Rattle.array_values.specs.declared.fault.ArrayFault.{ArrayFault}
+use Rattle.array_values.specs.declared.fault.ArrayFault.TheVariants as in_array
 use Rattle.hap_outside.specs.Causes.{Rose, HasCause}
 use Rattle.hap_outside.specs.Stores.{Store, bytes_under}
 use Rattle.hap_outside.specs.Writes.{Writes}
@@ -13,10 +15,10 @@ use Rattle.hap_words.specs.Asked.{Asked, make}
 use Rattle.hap_cli.specs.declared.outcome.Outcome.{Outcome}
 use Rattle.hap_cli.specs.declared.outcome.Outcome.TheVariants.{Done, Usage, Refused, ReadFault, WriteFault, Memory}
 use Rattle.hap_cli.specs.declared.refusal.Refusal.{Refusal}
-use Rattle.hap_cli.specs.declared.refusal.Refusal.TheVariants.{TooLong, Text, Space, Irregular, Chains}
+use Rattle.hap_cli.specs.declared.refusal.Refusal.TheVariants.{TooLong, Text, Space, Array, Irregular, Chains}
 use Rattle.hap_cli.specs.Input.{input_name, told_store, OnNamed, OnInput}
 use Rattle.hap_cli.specs.Spaces.{made, fault_in}
-use Rattle.hap_cli.specs.Refusals.{refusal, refusal_status, space_status}
+use Rattle.hap_cli.specs.Refusals.{refusal, refusal_status, space_status, array_status}
 use Rattle.hap_cli.specs.Outcomes.{status_of, status_for, Answers, Fails, Tells, IsEnd, IsStopped, written_outcome}
 
 -- what follows of the input under a name
@@ -135,6 +137,17 @@ exact_end (Some asked) store read write old new outcome status e h = at outcome 
 refused_status : (cause : Refusal) → (refusal_status cause ≡ 3) ⊎ ((refusal_status cause ≡ 4) ⊎ (refusal_status cause ≡ 5))
 refused_status (TooLong limit) = inr (inr refl)
 refused_status (Text fault) = inl refl
+refused_status (Array fault) = inr (of_array fault)
+  where
+    of_array : (fault : ArrayFault) → (array_status fault ≡ 4) ⊎ (array_status fault ≡ 5)
+    of_array in_array.TooManyCells = inr refl
+    of_array (in_array.Ragged p) = inl refl
+    of_array (in_array.NotBit p) = inl refl
+    of_array in_array.BadDimension = inl refl
+    of_array in_array.Empty = inl refl
+    of_array (in_array.BadPair r) = inl refl
+    of_array (in_array.ColumnCount c) = inl refl
+    of_array in_array.Memory = inl refl
 refused_status (Irregular fault) = inr (inl refl)
 refused_status (Chains count) = inr (inr refl)
 refused_status (Space fault) = inr (of_space fault)

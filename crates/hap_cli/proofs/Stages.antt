@@ -10,6 +10,10 @@ use Rattle.gap_text.specs.Reading.{value_of}
 use Rattle.face_poset.specs.declared.fault.SpaceFault.{SpaceFault}
 use Rattle.face_poset.specs.declared.fault.SpaceFault.TheVariants as in_space
 use Rattle.face_poset.specs.Reader.{space_of}
+use Rattle.array_values.specs.declared.fault.ArrayFault.{ArrayFault}
+use Rattle.array_values.specs.declared.fault.ArrayFault.TheVariants as in_array
+use Rattle.hap_words.specs.declared.command.Kind.{Kind}
+use Rattle.hap_words.specs.declared.command.Kind.TheVariants.{Boundary}
 use Rattle.regular_check.specs.declared.fault.RegularFault.{RegularFault}
 use Rattle.regular_check.specs.declared.fault.RegularFault.TheVariants as in_rules
 use Rattle.regular_check.specs.Rules.{first_fault, IsFault}
@@ -24,8 +28,8 @@ use Rattle.hap_cli.specs.declared.outcome.Outcome.TheVariants.{Done, Usage, Refu
 use Rattle.hap_cli.specs.declared.refusal.Refusal.{Refusal}
 use Rattle.hap_cli.specs.declared.refusal.Refusal.TheVariants.{TooLong, Chains}
 use Rattle.hap_cli.specs.Input.{OnNamed}
-use Rattle.hap_cli.specs.Spaces.{space_in, of_text, of_value, reading, unless_broken, only_regular, only_few}
-use Rattle.hap_cli.specs.Outcomes.{text_outcome, space_outcome, regular_outcome, chain_outcome, Fails, IsStopped}
+use Rattle.hap_cli.specs.Spaces.{space_in, space_of_kind, of_text, of_value, of_array, reading, unless_broken, only_regular, only_few}
+use Rattle.hap_cli.specs.Outcomes.{text_outcome, space_outcome, array_outcome, regular_outcome, chain_outcome, Fails, IsStopped}
 use Rattle.hap_cli.specs.Counting.{RisesBy, most_steps}
 use Rattle.hap_cli.proofs.Ends.{on_named}
 
@@ -44,26 +48,41 @@ not_less n m h = at (nat_lt n m) refl
     at false e = e
 
 -- a fault of the text is the refusal, but for want of memory
-pub text_ends : (bytes : List ℕ) (fault : TextFault) → (fault ≢ in_text.Memory → value_of bytes ≡ Err fault) → Fails (space_in bytes) (text_outcome fault)
-text_ends bytes in_text.Memory h = tt
-text_ends bytes (in_text.BadByte p) h = ap of_text (h (λ e. cc))
-text_ends bytes (in_text.Unclosed p) h = ap of_text (h (λ e. cc))
-text_ends bytes (in_text.Stray p) h = ap of_text (h (λ e. cc))
-text_ends bytes (in_text.Stepped p) h = ap of_text (h (λ e. cc))
-text_ends bytes (in_text.BadRange p) h = ap of_text (h (λ e. cc))
-text_ends bytes (in_text.NumberTooBig p) h = ap of_text (h (λ e. cc))
-text_ends bytes (in_text.TooDeep p) h = ap of_text (h (λ e. cc))
+pub text_ends : (kind : Kind) (bytes : List ℕ) (fault : TextFault) → (fault ≢ in_text.Memory → value_of bytes ≡ Err fault) → Fails (space_in kind bytes) (text_outcome fault)
+text_ends kind bytes in_text.Memory h = tt
+text_ends kind bytes (in_text.BadByte p) h = ap (of_text kind) (h (λ e. cc))
+text_ends kind bytes (in_text.Unclosed p) h = ap (of_text kind) (h (λ e. cc))
+text_ends kind bytes (in_text.Stray p) h = ap (of_text kind) (h (λ e. cc))
+text_ends kind bytes (in_text.Stepped p) h = ap (of_text kind) (h (λ e. cc))
+text_ends kind bytes (in_text.BadRange p) h = ap (of_text kind) (h (λ e. cc))
+text_ends kind bytes (in_text.NumberTooBig p) h = ap (of_text kind) (h (λ e. cc))
+text_ends kind bytes (in_text.TooDeep p) h = ap (of_text kind) (h (λ e. cc))
 
 -- and so is a fault of the space
-pub space_ends : (bytes : List ℕ) (value : Value) (fault : SpaceFault) → value_of bytes ≡ Ok value → (fault ≢ in_space.Memory → space_of value ≡ Err fault) → Fails (space_in bytes) (space_outcome fault)
-space_ends bytes value in_space.Memory e h = tt
-space_ends bytes value (in_space.Shape p) e h = ap of_text e ∙ ap of_value (h (λ f. cc))
-space_ends bytes value in_space.Empty e h = ap of_text e ∙ ap of_value (h (λ f. cc))
-space_ends bytes value in_space.TooHigh e h = ap of_text e ∙ ap of_value (h (λ f. cc))
-space_ends bytes value (in_space.BadCount c) e h = ap of_text e ∙ ap of_value (h (λ f. cc))
-space_ends bytes value (in_space.FaceOutOfRange c) e h = ap of_text e ∙ ap of_value (h (λ f. cc))
-space_ends bytes value (in_space.RepeatedFace c) e h = ap of_text e ∙ ap of_value (h (λ f. cc))
-space_ends bytes value in_space.TooManyCells e h = ap of_text e ∙ ap of_value (h (λ f. cc))
+pub space_ends : (value : Value) (fault : SpaceFault) → (fault ≢ in_space.Memory → space_of value ≡ Err fault) → Fails (space_of_kind Boundary value) (space_outcome fault)
+space_ends value in_space.Memory h = tt
+space_ends value (in_space.Shape p) h = ap of_value (h (λ f. cc))
+space_ends value in_space.Empty h = ap of_value (h (λ f. cc))
+space_ends value in_space.TooHigh h = ap of_value (h (λ f. cc))
+space_ends value (in_space.BadCount c) h = ap of_value (h (λ f. cc))
+space_ends value (in_space.FaceOutOfRange c) h = ap of_value (h (λ f. cc))
+space_ends value (in_space.RepeatedFace c) h = ap of_value (h (λ f. cc))
+space_ends value in_space.TooManyCells h = ap of_value (h (λ f. cc))
+
+-- and one of an array
+pub array_ends : (r : Result (List (List (List ℕ))) ArrayFault) (fault : ArrayFault) → (fault ≢ in_array.Memory → r ≡ Err fault) → Fails (of_array r) (array_outcome fault)
+array_ends r in_array.Memory h = tt
+array_ends r (in_array.Ragged p) h = ap of_array (h (λ f. cc))
+array_ends r (in_array.NotBit p) h = ap of_array (h (λ f. cc))
+array_ends r in_array.BadDimension h = ap of_array (h (λ f. cc))
+array_ends r in_array.Empty h = ap of_array (h (λ f. cc))
+array_ends r (in_array.BadPair p) h = ap of_array (h (λ f. cc))
+array_ends r (in_array.ColumnCount p) h = ap of_array (h (λ f. cc))
+array_ends r in_array.TooManyCells h = ap of_array (h (λ f. cc))
+
+-- what stops the reading of a value stops that of its text
+pub value_ends : (kind : Kind) (bytes : List ℕ) (value : Value) (outcome : Outcome) → value_of bytes ≡ Ok value → Fails (space_of_kind kind value) outcome → Fails (space_in kind bytes) outcome
+value_ends kind bytes value outcome e h = subst (λ r. Fails (of_text kind r) outcome) (sym e) h
 
 -- and the first rule that is broken
 pub rule_ends : (space : List (List (List ℕ))) (fault : RegularFault) → IsFault (first_fault space) fault → Fails (only_regular (Ok space)) (regular_outcome fault)
@@ -98,31 +117,31 @@ few_steps limit space old new most none = at (nat_lt limit (chain_count space)) 
     at false e = subst (λ r. new ≤ old + most_steps r) (sym (few_passes limit space (ltb-false limit (chain_count space) e))) most
 
 -- an input within the limit is read by its text and its space alone
-pub within : (bytes : List ℕ) → length bytes ≤ 16777216 → reading bytes ≡ space_in bytes
-within bytes short = ap (λ b. if b then Err (TooLong 16777216) else space_in bytes) (not_less 16777216 (length bytes) short)
+pub within : (kind : Kind) (bytes : List ℕ) → length bytes ≤ 16777216 → reading kind bytes ≡ space_in kind bytes
+within kind bytes short = ap (λ b. if b then Err (TooLong 16777216) else space_in kind bytes) (not_less 16777216 (length bytes) short)
 
 -- one that is too long is refused for that
-pub too_long : (bytes : List ℕ) → 16777216 < length bytes → reading bytes ≡ Err (TooLong 16777216)
-too_long bytes long = ap (λ b. if b then Err (TooLong 16777216) else space_in bytes) (less 16777216 (length bytes) long)
+pub too_long : (kind : Kind) (bytes : List ℕ) → 16777216 < length bytes → reading kind bytes ≡ Err (TooLong 16777216)
+too_long kind bytes long = ap (λ b. if b then Err (TooLong 16777216) else space_in kind bytes) (less 16777216 (length bytes) long)
 
 -- what the bytes that were read stand for
-pub read_in : (name : Option (List ℕ)) (store : Option Store) (items : List ℕ) (r : Result (List (List (List ℕ))) Refusal) → OnNamed name store (λ told. items ≡ told) → length items ≤ 16777216
-    → space_in items ≡ r → OnNamed name store (λ told. reading told ≡ r)
-read_in name store items r h short e = on_named name store (λ told. items ≡ told) _ (λ bytes f. subst (λ b. reading b ≡ r) f (within items short ∙ e)) h
+pub read_in : (kind : Kind) (name : Option (List ℕ)) (store : Option Store) (items : List ℕ) (r : Result (List (List (List ℕ))) Refusal) → OnNamed name store (λ told. items ≡ told) → length items ≤ 16777216
+    → space_in kind items ≡ r → OnNamed name store (λ told. reading kind told ≡ r)
+read_in kind name store items r h short e = on_named name store (λ told. items ≡ told) _ (λ bytes f. subst (λ b. reading kind b ≡ r) f (within kind items short ∙ e)) h
 
 -- where they stand for no space, a run stops so
-pub fails_in : (name : Option (List ℕ)) (store : Option Store) (rose : Type 0) (items : List ℕ) (outcome : Outcome) → OnNamed name store (λ told. items ≡ told) → length items ≤ 16777216
-    → Fails (space_in items) outcome → IsStopped name store rose reading outcome
-fails_in name store rose items (Refused cause) h short e = read_in name store items (Err cause) h short e
-fails_in name store rose items Memory h short e = tt
-fails_in name store rose items Done h short e = e
-fails_in name store rose items Usage h short e = e
-fails_in name store rose items ReadFault h short e = absurd e
-fails_in name store rose items WriteFault h short e = e
+pub fails_in : (kind : Kind) (name : Option (List ℕ)) (store : Option Store) (rose : Type 0) (items : List ℕ) (outcome : Outcome) → OnNamed name store (λ told. items ≡ told) → length items ≤ 16777216
+    → Fails (space_in kind items) outcome → IsStopped name store rose (reading kind) outcome
+fails_in kind name store rose items (Refused cause) h short e = read_in kind name store items (Err cause) h short e
+fails_in kind name store rose items Memory h short e = tt
+fails_in kind name store rose items Done h short e = e
+fails_in kind name store rose items Usage h short e = e
+fails_in kind name store rose items ReadFault h short e = absurd e
+fails_in kind name store rose items WriteFault h short e = e
 
 -- where they are too many
-pub long_in : (name : Option (List ℕ)) (store : Option Store) → OnNamed name store (λ told. 16777216 < length told) → OnNamed name store (λ told. reading told ≡ Err (TooLong 16777216))
-long_in name store h = on_named name store (λ told. 16777216 < length told) _ too_long h
+pub long_in : (kind : Kind) (name : Option (List ℕ)) (store : Option Store) → OnNamed name store (λ told. 16777216 < length told) → OnNamed name store (λ told. reading kind told ≡ Err (TooLong 16777216))
+long_in kind name store h = on_named name store (λ told. 16777216 < length told) _ (too_long kind) h
 
 -- where a space that was read does not come past the next stage, a run stops so
 pub fails_next : (name : Option (List ℕ)) (store : Option Store) (rose : Type 0) (stage : List ℕ → Result (List (List (List ℕ))) Refusal)

@@ -50,9 +50,9 @@ IsMade size (Some p) text = (numbers : Betti) × AreBetti (mod_ops p) (torus_of 
 
 -- the text is an answer of the command on these bytes
 abbrev pub IsAnswer : Asked → List ℕ → List ℕ → Type 0
-IsAnswer (cells s) bytes text = (space : List (List (List ℕ))) × (reading bytes ≡ Ok space) × (text ≡ cells_text space)
-IsAnswer (check s) bytes text = (space : List (List (List ℕ))) × (regular_reading bytes ≡ Ok space) × (text ≡ check_text space)
+IsAnswer (cells s) bytes text = (space : List (List (List ℕ))) × (reading s.kind bytes ≡ Ok space) × (text ≡ cells_text space)
+IsAnswer (check s) bytes text = (space : List (List (List ℕ))) × (regular_reading s.kind bytes ≡ Ok space) × (text ≡ check_text space)
 IsAnswer (betti s p) bytes text =
-    (space : List (List (List ℕ))) × (regular_reading bytes ≡ Ok space) × (numbers : Betti) × AreBetti (mod_ops p) space numbers × (text ≡ betti_text numbers)
+    (space : List (List (List ℕ))) × (regular_reading s.kind bytes ≡ Ok space) × (numbers : Betti) × AreBetti (mod_ops p) space numbers × (text ≡ betti_text numbers)
 IsAnswer (make n p) bytes text = IsMade n p text
 IsAnswer other bytes text = ⊥

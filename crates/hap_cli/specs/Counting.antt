@@ -26,7 +26,7 @@ make_steps size (Some p) = most_steps (made size (Some p))
 
 -- a command that eliminates counts row additions, every other counts nothing
 abbrev pub Counts : Asked → Option Store → (old new : ℕ) → Type 0
-Counts (betti s p) store old new = RisesBy s.name store (λ bytes. most_steps (few_reading bytes)) old new
+Counts (betti s p) store old new = RisesBy s.name store (λ bytes. most_steps (few_reading s.kind bytes)) old new
 Counts (make n p) store old new = new ≤ old + make_steps n p
 Counts other store old new = new ≡ old
 

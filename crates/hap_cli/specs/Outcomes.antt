@@ -14,9 +14,11 @@ use Rattle.gap_text.specs.declared.fault.TextFault.{TextFault}
 use Rattle.gap_text.specs.declared.fault.TextFault.TheVariants as in_text
 use Rattle.face_poset.specs.declared.fault.SpaceFault.{SpaceFault}
 use Rattle.face_poset.specs.declared.fault.SpaceFault.TheVariants as in_space
+use Rattle.array_values.specs.declared.fault.ArrayFault.{ArrayFault}
+use Rattle.array_values.specs.declared.fault.ArrayFault.TheVariants as in_array
 use Rattle.regular_check.specs.declared.fault.RegularFault.{RegularFault}
 use Rattle.regular_check.specs.declared.fault.RegularFault.TheVariants as in_rules
-use Rattle.hap_cli.specs.declared.refusal.Refusal.TheVariants.{Text, Space, Irregular, Chains}
+use Rattle.hap_cli.specs.declared.refusal.Refusal.TheVariants.{Text, Space, Array, Irregular, Chains}
 use Rattle.order_complex.specs.declared.fault.ChainFault.{ChainFault}
 use Rattle.order_complex.specs.declared.fault.ChainFault.TheVariants as in_chains
 use Rattle.hap_cli.specs.Input.{OnNamed, OnInput}
@@ -56,7 +58,7 @@ status_for (Some cause) = refusal_status cause
 
 -- ---- faults of what a stage reads
 
--- how a run ends at a fault of the text, of the space, and at a broken rule: it is refused, or memory was wanting
+-- how a run ends at a fault of the text, of the space, of an array, and at a broken rule: it is refused, or memory was wanting
 abbrev pub text_outcome : TextFault → Outcome
 text_outcome in_text.Memory = Memory
 text_outcome fault = Refused (Text fault)
@@ -64,6 +66,10 @@ text_outcome fault = Refused (Text fault)
 abbrev pub space_outcome : SpaceFault → Outcome
 space_outcome in_space.Memory = Memory
 space_outcome fault = Refused (Space fault)
+
+abbrev pub array_outcome : ArrayFault → Outcome
+array_outcome in_array.Memory = Memory
+array_outcome fault = Refused (Array fault)
 
 abbrev pub regular_outcome : RegularFault → Outcome
 regular_outcome in_rules.Memory = Memory

@@ -8,18 +8,20 @@ use Rattle.gap_text.specs.declared.fault.TextFault.TheVariants as in_text
 use Rattle.face_poset.specs.declared.cells.Cell.{Cell}
 use Rattle.face_poset.specs.declared.fault.SpaceFault.{SpaceFault}
 use Rattle.face_poset.specs.declared.fault.SpaceFault.TheVariants as in_space
+use Rattle.array_values.specs.declared.fault.ArrayFault.{ArrayFault}
+use Rattle.array_values.specs.declared.fault.ArrayFault.TheVariants as in_array
 use Rattle.regular_check.specs.declared.fault.RegularFault.{RegularFault}
 use Rattle.regular_check.specs.declared.fault.RegularFault.TheVariants as rule
 use Rattle.hap_words.specs.Asked.{Asked, cells, check, betti, make}
 use Rattle.hap_cli.specs.declared.refusal.Refusal.{Refusal}
-use Rattle.hap_cli.specs.declared.refusal.Refusal.TheVariants.{TooLong, Text, Space, Irregular, Chains}
+use Rattle.hap_cli.specs.declared.refusal.Refusal.TheVariants.{TooLong, Text, Space, Array, Irregular, Chains}
 use Rattle.hap_cli.specs.Spaces.{fault_in, reading, regular_reading, few_reading, made}
 
 -- the first condition that holds, in the order of the stages
 abbrev pub refusal : Asked → List ℕ → Option Refusal
-refusal (cells s) bytes = fault_in (reading bytes)
-refusal (check s) bytes = fault_in (regular_reading bytes)
-refusal (betti s p) bytes = fault_in (few_reading bytes)
+refusal (cells s) bytes = fault_in (reading s.kind bytes)
+refusal (check s) bytes = fault_in (regular_reading s.kind bytes)
+refusal (betti s p) bytes = fault_in (few_reading s.kind bytes)
 refusal (make n p) bytes = fault_in (made n p)
 refusal other bytes = None
 
@@ -27,10 +29,15 @@ abbrev pub space_status : SpaceFault → ℕ
 space_status in_space.TooManyCells = 5
 space_status other = 4
 
+abbrev pub array_status : ArrayFault → ℕ
+array_status in_array.TooManyCells = 5
+array_status other = 4
+
 abbrev pub refusal_status : Refusal → ℕ
 refusal_status (TooLong limit) = 5
 refusal_status (Text fault) = 3
 refusal_status (Space fault) = space_status fault
+refusal_status (Array fault) = array_status fault
 refusal_status (Irregular fault) = 4
 refusal_status (Chains count) = 5
 
@@ -78,6 +85,20 @@ space_line (in_space.RepeatedFace cell) = cell_line (codes "repeated face") cell
 space_line in_space.TooManyCells = codes "hap: limit: cells over 60000\n"
 space_line in_space.Memory = codes "hap: want of memory\n"
 
+-- what is wrong with an array, and where
+abbrev pub array_line : List ℕ → ℕ → List ℕ
+array_line words place = codes "hap: array: " ++ (words ++ (decimal place ++ codes "\n"))
+
+abbrev pub array_fault_line : ArrayFault → List ℕ
+array_fault_line (in_array.Ragged place) = array_line (codes "ragged at byte ") place
+array_fault_line (in_array.NotBit place) = array_line (codes "not a bit at byte ") place
+array_fault_line in_array.BadDimension = codes "hap: array: bad dimension\n"
+array_fault_line in_array.Empty = codes "hap: array: empty\n"
+array_fault_line (in_array.BadPair row) = array_line (codes "bad pair in row ") row
+array_fault_line (in_array.ColumnCount column) = array_line (codes "column ") column
+array_fault_line in_array.TooManyCells = codes "hap: limit: cells over 60000\n"
+array_fault_line in_array.Memory = codes "hap: want of memory\n"
+
 -- the rule that a cell breaks
 abbrev pub rule_line : List ℕ → ℕ → List ℕ
 rule_line words cell = codes "hap: space: " ++ (words ++ (codes ", cell " ++ (decimal cell ++ codes "\n")))
@@ -103,5 +124,6 @@ abbrev pub refusal_line : Refusal → List ℕ
 refusal_line (TooLong limit) = limit_line limit
 refusal_line (Text fault) = text_line fault
 refusal_line (Space fault) = space_line fault
+refusal_line (Array fault) = array_fault_line fault
 refusal_line (Irregular fault) = regular_line fault
 refusal_line (Chains count) = chains_line count

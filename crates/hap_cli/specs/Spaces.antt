@@ -9,26 +9,41 @@ use Rattle.gap_text.specs.Reading.{value_of}
 use Rattle.gap_text.specs.Value.{Value}
 use Rattle.face_poset.specs.declared.fault.SpaceFault.{SpaceFault}
 use Rattle.face_poset.specs.Reader.{space_of}
+use Rattle.array_values.specs.declared.fault.ArrayFault.{ArrayFault}
+use Rattle.array_values.specs.declared.fault.ArrayFault.TheVariants.{BadDimension}
+use Rattle.cubical_arrays.specs.Voxels.{cubical_of}
+use Rattle.hap_words.specs.declared.command.Kind.{Kind}
+use Rattle.hap_words.specs.declared.command.Kind.TheVariants.{Boundary, Cubical}
 use Rattle.regular_check.specs.declared.fault.RegularFault.{RegularFault}
 use Rattle.regular_check.specs.Rules.{first_fault}
 use Rattle.order_complex.specs.Chains.{chain_count}
 use Rattle.array_readers.specs.Torus.{torus_of}
 use Rattle.hap_cli.specs.declared.refusal.Refusal.{Refusal}
-use Rattle.hap_cli.specs.declared.refusal.Refusal.TheVariants.{TooLong, Text, Space, Irregular, Chains}
+use Rattle.hap_cli.specs.declared.refusal.Refusal.TheVariants.{TooLong, Text, Space, Array, Irregular, Chains}
 
--- ---- the space of the bytes of a boundary list
+-- ---- the space of the bytes of an input, by its kind
 
 abbrev pub of_value : Result (List (List (List ℕ))) SpaceFault → Result (List (List (List ℕ))) Refusal
 of_value (Ok space) = Ok space
 of_value (Err fault) = Err (Space fault)
 
-abbrev pub of_text : Result Value TextFault → Result (List (List (List ℕ))) Refusal
-of_text (Ok value) = of_value (space_of value)
-of_text (Err fault) = Err (Text fault)
+abbrev pub of_array : Result (List (List (List ℕ))) ArrayFault → Result (List (List (List ℕ))) Refusal
+of_array (Ok space) = Ok space
+of_array (Err fault) = Err (Array fault)
+
+-- the space of a value; an input of one of the other kinds is refused with the words, before it is read
+abbrev pub space_of_kind : Kind → Value → Result (List (List (List ℕ))) Refusal
+space_of_kind Boundary value = of_value (space_of value)
+space_of_kind Cubical value = of_array (cubical_of value)
+space_of_kind other value = Err (Array BadDimension)
+
+abbrev pub of_text : Kind → Result Value TextFault → Result (List (List (List ℕ))) Refusal
+of_text kind (Ok value) = space_of_kind kind value
+of_text kind (Err fault) = Err (Text fault)
 
 -- first the text is read, and then the space of its value
-abbrev pub space_in : List ℕ → Result (List (List (List ℕ))) Refusal
-space_in bytes = of_text (value_of bytes)
+abbrev pub space_in : Kind → List ℕ → Result (List (List (List ℕ))) Refusal
+space_in kind bytes = of_text kind (value_of bytes)
 
 abbrev pub fault_in : Result (List (List (List ℕ))) Refusal → Option Refusal
 fault_in (Ok space) = None
@@ -37,8 +52,8 @@ fault_in (Err refusal) = Some refusal
 -- ---- the stages of the reading; each refuses what the ones before it let through
 
 -- the input has more bytes than are taken, or is no space
-abbrev pub reading : List ℕ → Result (List (List (List ℕ))) Refusal
-reading bytes = if nat_lt 16777216 (length bytes) then Err (TooLong 16777216) else space_in bytes
+abbrev pub reading : Kind → List ℕ → Result (List (List (List ℕ))) Refusal
+reading kind bytes = if nat_lt 16777216 (length bytes) then Err (TooLong 16777216) else space_in kind bytes
 
 -- the space breaks a rule of regularity
 abbrev pub unless_broken : List (List (List ℕ)) → Option RegularFault → Result (List (List (List ℕ))) Refusal
@@ -49,16 +64,16 @@ abbrev pub only_regular : Result (List (List (List ℕ))) Refusal → Result (Li
 only_regular (Ok space) = unless_broken space (first_fault space)
 only_regular (Err refusal) = Err refusal
 
-abbrev pub regular_reading : List ℕ → Result (List (List (List ℕ))) Refusal
-regular_reading bytes = only_regular (reading bytes)
+abbrev pub regular_reading : Kind → List ℕ → Result (List (List (List ℕ))) Refusal
+regular_reading kind bytes = only_regular (reading kind bytes)
 
 -- the order complex of the space has more chains than the limit
 abbrev pub only_few : (limit : ℕ) → Result (List (List (List ℕ))) Refusal → Result (List (List (List ℕ))) Refusal
 only_few limit (Ok space) = if nat_lt limit (chain_count space) then Err (Chains (chain_count space)) else Ok space
 only_few limit (Err refusal) = Err refusal
 
-abbrev pub few_reading : List ℕ → Result (List (List (List ℕ))) Refusal
-few_reading bytes = only_few 2000 (regular_reading bytes)
+abbrev pub few_reading : Kind → List ℕ → Result (List (List (List ℕ))) Refusal
+few_reading kind bytes = only_few 2000 (regular_reading kind bytes)
 
 -- the 3-torus of a size; with a modulus, its Betti numbers are wanted
 abbrev pub made : (size : ℕ) → (modulus : Option ℕ) → Result (List (List (List ℕ))) Refusal

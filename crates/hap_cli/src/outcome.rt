@@ -5,6 +5,7 @@ ghost use Rattle.hap_outside.specs.Writes.{Writes};
 ghost use Rattle.hap_cli.specs.Outcomes.{status_of, line_of, usage_line, Tells, written_outcome};
 
 use crate::refusal::{Refusal, refusal_code, write_refusal};
+use array_values::ArrayFault;
 use face_poset::SpaceFault;
 use gap_text::TextFault;
 use hap_outside::{Failed, Sink, write_all};
@@ -52,6 +53,20 @@ impl From<SpaceFault> for Outcome {
         match fault {
             SpaceFault::Memory => Outcome::Memory,
             _ => Outcome::Refused(Refusal::Space(fault)),
+        }
+    }
+}
+
+impl From<ArrayFault> for Outcome {
+    ghost use Rattle.std.specs.Prelude.{◌≡◌};
+    ghost use Rattle.hap_cli.specs.Outcomes.{array_outcome};
+
+    ghost from_gives = { λ fault outcome. outcome ≡ array_outcome fault };
+
+    fn from(fault: ArrayFault) -> Outcome {
+        match fault {
+            ArrayFault::Memory => Outcome::Memory,
+            _ => Outcome::Refused(Refusal::Array(fault)),
         }
     }
 }

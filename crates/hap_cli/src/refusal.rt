@@ -4,6 +4,7 @@ ghost use Rattle.hap_outside.specs.Causes.{HasCause};
 ghost use Rattle.hap_outside.specs.Writes.{Writes};
 ghost use Rattle.hap_cli.specs.Refusals as refusals;
 
+use array_values::ArrayFault;
 use face_poset::{Cell, SpaceFault};
 use gap_text::TextFault;
 use hap_outside::{Failed, Piece, Sink, write_all, write_pieces};
@@ -18,6 +19,8 @@ pub enum Refusal {
     Text(TextFault),
     /// The value is no space, or one with too many cells.
     Space(SpaceFault),
+    /// The value is no array of the kind, or its space has too many cells.
+    Array(ArrayFault),
     /// The space breaks a rule of regularity.
     Irregular(RegularFault),
     /// The order complex of the space has so many chains, which is more than the limit.
@@ -32,6 +35,7 @@ pub fn refusal_code(refusal: Refusal) -> u8
         Refusal::TooLong(_) => 5,
         Refusal::Text(_) => 3,
         Refusal::Space(fault) => space_code(fault),
+        Refusal::Array(fault) => array_code(fault),
         Refusal::Irregular(_) => 4,
         Refusal::Chains(_) => 5,
     }
@@ -42,6 +46,15 @@ fn space_code(fault: SpaceFault) -> u8
 {
     match fault {
         SpaceFault::TooManyCells => 5,
+        _ => 4,
+    }
+}
+
+fn array_code(fault: ArrayFault) -> u8
+    ensures { result ≡ refusals.array_status fault }
+{
+    match fault {
+        ArrayFault::TooManyCells => 5,
         _ => 4,
     }
 }
@@ -145,6 +158,38 @@ fn write_space<E: Sink>(err: &mut E, fault: SpaceFault) -> Result<(), Failed>
     }
 }
 
+fn write_place<E: Sink>(err: &mut E, words: &[u8], place: u32) -> Result<(), Failed>
+    ensures bytes { Writes (E.written err.old) (E.written err.new) (refusals.array_line words.now place) result }
+    ensures cause { HasCause (E.faults err.old) (E.faults err.new) result }
+{
+    let place = Piece::Count(u64::from(place));
+    write_pieces(
+        err,
+        &[
+            Piece::Text(b"hap: array: "),
+            Piece::Text(words),
+            place,
+            Piece::Text(b"\n"),
+        ],
+    )
+}
+
+fn write_array<E: Sink>(err: &mut E, fault: ArrayFault) -> Result<(), Failed>
+    ensures bytes { Writes (E.written err.old) (E.written err.new) (refusals.array_fault_line fault) result }
+    ensures cause { HasCause (E.faults err.old) (E.faults err.new) result }
+{
+    match fault {
+        ArrayFault::Ragged(place) => write_place(err, b"ragged at byte ", place),
+        ArrayFault::NotBit(place) => write_place(err, b"not a bit at byte ", place),
+        ArrayFault::BadDimension => write_all(err, b"hap: array: bad dimension\n"),
+        ArrayFault::Empty => write_all(err, b"hap: array: empty\n"),
+        ArrayFault::BadPair(row) => write_place(err, b"bad pair in row ", row),
+        ArrayFault::ColumnCount(column) => write_place(err, b"column ", column),
+        ArrayFault::TooManyCells => write_all(err, b"hap: limit: cells over 60000\n"),
+        ArrayFault::Memory => write_all(err, b"hap: want of memory\n"),
+    }
+}
+
 fn write_rule<E: Sink>(err: &mut E, words: &[u8], cell: u32) -> Result<(), Failed>
     ensures bytes { Writes (E.written err.old) (E.written err.new) (refusals.rule_line words.now cell) result }
     ensures cause { HasCause (E.faults err.old) (E.faults err.new) result }
@@ -231,6 +276,7 @@ pub fn write_refusal<E: Sink>(err: &mut E, refusal: Refusal) -> Result<(), Faile
         Refusal::TooLong(limit) => write_limit(err, limit),
         Refusal::Text(fault) => write_text(err, fault),
         Refusal::Space(fault) => write_space(err, fault),
+        Refusal::Array(fault) => write_array(err, fault),
         Refusal::Irregular(fault) => write_regular(err, fault),
         Refusal::Chains(count) => write_chains(err, count),
     }
