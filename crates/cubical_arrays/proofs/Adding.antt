@@ -1,15 +1,13 @@
 -- What the builder asks of a cell, and the space with the cell.
-use Rattle.std.proofs.Common.{◌≡◌, ◌≢◌, ℕ, ◌+◌, ◌-◌, ◌<◌, ◌≤◌, List, [], ◌∷◌, ◌++◌, map, filter, length, set, take, get_or, Contains, refl, ap, sym, ◌∙◌, subst, arith}
+use Rattle.std.proofs.Common.{◌≡◌, ℕ, ◌+◌, ◌-◌, ◌<◌, ◌≤◌, List, [], ◌∷◌, ◌++◌, map, length, set, take, get_or, Contains, ap, sym, ◌∙◌, subst, arith}
 use Rattle.std.specs.List.Sorted.{IsStrictlyIncreasing}
 use Rattle.std.proofs.lemmas.List.{take_more}
 use Rattle.face_poset.specs.Poset.{IsCell, layer, count}
-use Rattle.regular_check.proofs.Members.{In, at-In}
+use Rattle.regular_check.proofs.Members.{In}
 use Rattle.array_values.specs.Bits.{volume}
 use Rattle.array_readers.specs.Tuples.{cells_in, numbers_in}
 use Rattle.cubical_arrays.specs.Voxels.{facets}
 use Rattle.cubical_arrays.specs.Places.{strides_of, tuple_at, dim_at, facet_places, number_among, stage, IsClosed}
-use Rattle.cubical_arrays.proofs.Boxes.{Some}
-use Rattle.cubical_arrays.proofs.Facets.{OddBox}
 use Rattle.cubical_arrays.proofs.Numbering.{sorted_facets, no_facets, cell_facets}
 use Rattle.cubical_arrays.proofs.Stages.{stage-more, stage-below}
 use Rattle.cubical_arrays.proofs.Finding.{to_In, from_In}

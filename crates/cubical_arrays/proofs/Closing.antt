@@ -1,5 +1,5 @@
 -- The cells of voxels, by their places.
-use Rattle.std.proofs.Common.{◌≡◌, ◌⊎◌, inl, inr, ℕ, zero, suc, ◌+◌, ◌-◌, ◌*◌, ◌/◌, ◌%◌, ◌<◌, ◌≤◌, List, [], ◌∷◌, ◌++◌, Bool, true, false, cond, ◌||◌, eqb, filter, map, length, get_or, Contains, refl, ap, sym, ◌∙◌, subst, arith}
+use Rattle.std.proofs.Common.{◌≡◌, inl, inr, ℕ, zero, suc, ◌+◌, ◌-◌, ◌*◌, ◌/◌, ◌%◌, ◌<◌, ◌≤◌, List, [], ◌∷◌, Bool, true, cond, eqb, filter, map, length, get_or, Contains, refl, ap, sym, ◌∙◌, subst, arith}
 use Rattle.std.specs.List.{list_any, flat_map, range_with_len, All}
 use Rattle.std.specs.List.Sorted.{IsStrictlyIncreasing}
 use Rattle.std.proofs.Math.Nat.{mul-le-mul, mul-le-mul_right}
@@ -15,17 +15,22 @@ use Rattle.face_poset.proofs.Members.{same_increasing, holds-from, Contains-from
 use Rattle.regular_check.proofs.Members.{In, here, there, In-filter, In-inside, filter-In, holds-In, In-holds, In-at, at-In, In-left, In-right, append-In, or-left, or-right, or-cases}
 use Rattle.regular_check.proofs.Passing.{same_bool}
 use Rattle.array_values.specs.Bits.{volume}
-use Rattle.array_readers.specs.Tuples.{same, is_odd, dim_of}
+use Rattle.array_readers.specs.Tuples.{same, dim_of}
 use Rattle.array_readers.proofs.Neighbors.{dim-cons, even-is}
-use Rattle.array_readers.proofs.Numbering.{increasing-range, map-In}
+use Rattle.array_readers.proofs.Numbering.{map-In}
 use Rattle.array_readers.proofs.Triples.{filter_map, same-eq, eq-same}
-use Rattle.cubical_arrays.specs.Voxels.{boxed, voxel, faces, limits_of, cells_of}
+use Rattle.cubical_arrays.specs.Voxels.{voxel, faces, limits_of, cells_of}
 use Rattle.cubical_arrays.specs.Places.{strides_of, tuple_at, dim_at, voxel_place, face_places, facet_places, count_at}
-use Rattle.cubical_arrays.proofs.Boxes.{Some, all-head, all-tail, IsWithin, place_of, some-volume, row-below, place-below, tuple-place, place-tuple, tuple-within, boxed-is}
+use Rattle.cubical_arrays.proofs.Boxes.{Some, all-head, all-tail, IsWithin, place_of, some-volume, place-below, tuple-place, place-tuple, tuple-within, boxed-is}
 use Rattle.cubical_arrays.proofs.Faces.{IsInner, IsNear, IsOdd, voxel-inner, voxel-odd, faces-are, voxel_place-is, near-any, any-near}
-use Rattle.cubical_arrays.proofs.Facets.{OddBox, IsFacetOf, are_facets, odd_box, some_box}
+use Rattle.cubical_arrays.proofs.Facets.{IsFacetOf, are_facets, odd_box, some_box}
 
 -- ---- lists
+
+pub increasing-range : (n : ℕ) → IsStrictlyIncreasing (range_with_len 0 n)
+increasing-range n k l =
+    let m : k + 1 < n = omega (arith, l, length-range_with_len 0 n) in
+    omega (arith, get_or-range_with_len 0 n k 0 (omega arith), get_or-range_with_len 0 n (k + 1) 0 m)
 
 -- a tuple whose image this is
 map-any : (f : List ℕ → ℕ) (n : ℕ) (us : List (List ℕ)) → In n (map f us) → (t : List ℕ) × (n ≡ f t) × (list_any (same t) us ≡ true)
@@ -67,10 +72,10 @@ flat-any p h g i [] j e = elim j [ ]
 flat-any p h g i (x ∷ xs) here e = list_any-append p (h (g x)) (flat_map h (map g xs)) ∙ or-left (list_any p (h (g x))) (list_any p (flat_map h (map g xs))) e
 flat-any p h g i (x ∷ xs) (there j) e = list_any-append p (h (g x)) (flat_map h (map g xs)) ∙ or-right (list_any p (h (g x))) (list_any p (flat_map h (map g xs))) (flat-any p h g i xs j e)
 
-range-In : (n m : ℕ) → m < n → In m (range_with_len 0 n)
-range-In n m l = subst (λ (k : ℕ). In k (range_with_len 0 n)) (get_or-range_with_len 0 n m 0 l) (at-In (range_with_len 0 n) m 0 (omega (arith, length-range_with_len 0 n)))
+pub range-In : (n m : ℕ) → m < n → In m (range_with_len 0 n)
+range-In n m l = subst (λ (k : ℕ). In k (range_with_len 0 n)) (get_or-range_with_len 0 n m 0 l ∙ (let e : 0 + m ≡ m = omega arith in e)) (at-In (range_with_len 0 n) m 0 (omega (arith, length-range_with_len 0 n)))
 
-In-range : (n m : ℕ) → In m (range_with_len 0 n) → m < n
+pub In-range : (n m : ℕ) → In m (range_with_len 0 n) → m < n
 In-range n m i =
     let r = In-at i in
     let l : r.0 < n = omega (arith, r.1, length-range_with_len 0 n) in
@@ -140,6 +145,41 @@ voxel_place-rises (x ∷ ss) i j s l h =
 
 -- ---- the places of the cells
 
+module _ (sizes I : List ℕ) (s : Some sizes) (inside : (i : ℕ) → In i I → i < volume sizes) where
+  inner : (i : ℕ) → In i I → IsInner (limits_of sizes) (voxel (tuple_at (strides_of sizes) i))
+  inner i j = voxel-inner sizes (tuple_at (strides_of sizes) i) (tuple-within sizes i s (inside i j))
+
+  places-are : (i : ℕ) → In i I → face_places (strides_of (limits_of sizes)) (voxel_place (strides_of sizes) (strides_of (limits_of sizes)) i) ≡ map (place_of (limits_of sizes)) (faces (voxel (tuple_at (strides_of sizes) i)))
+  places-are i j = ap (face_places (strides_of (limits_of sizes))) (voxel_place-is sizes i) ∙ faces-are (limits_of sizes) (voxel (tuple_at (strides_of sizes) i)) (inner i j)
+
+  -- the tuple at a place that was found is near a voxel
+  pub record IsCellAt (n : ℕ) : Type 0 where
+    pub below : n < volume (limits_of sizes)
+    pub index : ℕ
+    pub there_is : In index I
+    pub near : IsNear (voxel (tuple_at (strides_of sizes) index)) (tuple_at (strides_of (limits_of sizes)) n)
+
+  abbrev all_places : List ℕ
+  all_places = flat_map (λ i. face_places (strides_of (limits_of sizes)) (voxel_place (strides_of sizes) (strides_of (limits_of sizes)) i)) I
+
+  pub flat-cell : (n : ℕ) → In n (flat_map (λ i. face_places (strides_of (limits_of sizes)) (voxel_place (strides_of sizes) (strides_of (limits_of sizes)) i)) I) → IsCellAt n
+  flat-cell n i =
+      let L : List ℕ = limits_of sizes in
+      let T : ℕ → List ℕ = tuple_at (strides_of L) in
+      let w = In-flat (λ i. face_places (strides_of (limits_of sizes)) (voxel_place (strides_of sizes) (strides_of (limits_of sizes)) i)) I i in
+      let j : ℕ = w.0 in
+      let v : List ℕ = voxel (tuple_at (strides_of sizes) j) in
+      let r = map-any (place_of L) n (faces v) (subst (In n) (places-are j w.1) w.2) in
+      let t : List ℕ = r.0 in
+      let close : IsNear v t = any-near v t (voxel-odd (tuple_at (strides_of sizes) j)) r.2 in
+      let within : IsWithin L t = near-within L v t (inner j w.1) close in
+      record {
+        below = subst (λ (k : ℕ). k < volume L) (sym r.1) (place-below L t within);
+        index = j;
+        there_is = w.1;
+        near = subst (IsNear v) (sym (ap T r.1 ∙ tuple-place L t within)) close;
+      }
+
 module _ (sizes I P : List ℕ) (s : Some sizes) (inside : (i : ℕ) → In i I → i < volume sizes) (inc : IsStrictlyIncreasing P)
     (keeps : (n : ℕ) → Contains (flat_map (λ i. face_places (strides_of (limits_of sizes)) (voxel_place (strides_of sizes) (strides_of (limits_of sizes)) i)) I) n → Contains P n)
     (adds_none : (n : ℕ) → Contains P n → Contains (flat_map (λ i. face_places (strides_of (limits_of sizes)) (voxel_place (strides_of sizes) (strides_of (limits_of sizes)) i)) I) n) where
@@ -158,44 +198,19 @@ module _ (sizes I P : List ℕ) (s : Some sizes) (inside : (i : ℕ) → In i I 
   abbrev near_places : ℕ → List ℕ
   near_places i = face_places (strides_of (limits_of sizes)) (voxel_place (strides_of sizes) (strides_of (limits_of sizes)) i)
 
-  inner : (i : ℕ) → In i I → IsInner L (vox i)
-  inner i j = voxel-inner sizes (tuple_at (strides_of sizes) i) (tuple-within sizes i s (inside i j))
-
-  places-are : (i : ℕ) → In i I → near_places i ≡ map (place_of L) (faces (vox i))
-  places-are i j = ap (face_places ss) (voxel_place-is sizes i) ∙ faces-are L (vox i) (inner i j)
-
-  -- the tuple at a place that was found is near a voxel
-  pub record IsCellAt (n : ℕ) : Type 0 where
-    pub below : n < volume (limits_of sizes)
-    pub index : ℕ
-    pub there_is : In index I
-    pub near : IsNear (voxel (tuple_at (strides_of sizes) index)) (tuple_at (strides_of (limits_of sizes)) n)
-
-  pub found-cell : (n : ℕ) → In n P → IsCellAt n
-  found-cell n i =
-      let w = In-flat near_places I (holds-In (flat_map near_places I) (holds-from (flat_map near_places I) n (adds_none n (Contains-from_holds P n (In-holds i))))) in
-      let j : ℕ = w.0 in
-      let r = map-any (place_of L) n (faces (vox j)) (subst (In n) (places-are j w.1) w.2) in
-      let t : List ℕ = r.0 in
-      let close : IsNear (vox j) t = any-near (vox j) t (voxel-odd (tuple_at (strides_of sizes) j)) r.2 in
-      let within : IsWithin L t = near-within L (vox j) t (inner j w.1) close in
-      record {
-        below = subst (λ (k : ℕ). k < volume L) (sym r.1) (place-below L t within);
-        index = j;
-        there_is = w.1;
-        near = subst (IsNear (vox j)) (sym (ap T r.1 ∙ tuple-place L t within)) close;
-      }
+  pub found-cell : (n : ℕ) → In n P → IsCellAt sizes I s inside n
+  found-cell n i = flat-cell sizes I s inside n (holds-In (flat_map near_places I) (holds-from (flat_map near_places I) n (adds_none n (Contains-from_holds P n (In-holds i)))))
 
   pub cell-found : (n i : ℕ) → n < volume (limits_of sizes) → In i I → IsNear (voxel (tuple_at (strides_of sizes) i)) (tuple_at (strides_of (limits_of sizes)) n) → In n P
   cell-found n i l j close =
       let at : place_of L (T n) ≡ n = place-tuple L n (some_box sizes) l in
       let a : In n (map (place_of L) (faces (vox i))) = subst (λ (k : ℕ). In k (map (place_of L) (faces (vox i)))) at (any-map (place_of L) (T n) (faces (vox i)) (near-any (vox i) (T n) close)) in
-      let b : In n (flat_map near_places I) = flat-In near_places i n I j (subst (In n) (sym (places-are i j)) a) in
+      let b : In n (flat_map near_places I) = flat-In near_places i n I j (subst (In n) (sym (places-are sizes I s inside i j)) a) in
       holds-In P (holds-from P n (keeps n (Contains-from_holds (flat_map near_places I) n (In-holds b))))
 
   pub closed-cells : (p : ℕ) → In p P → (k : ℕ) → In k (facet_places (strides_of (limits_of sizes)) p) → In k P
   closed-cells p i k j =
-      let c : IsCellAt p = found-cell p i in
+      let c : IsCellAt sizes I s inside p = found-cell p i in
       let f : IsFacetOf L p k = are_facets L p (some_box sizes) (odd_box sizes) c.below k j in
       cell-found k c.index f.below c.there_is (f.near (vox c.index) (voxel-odd (tuple_at (strides_of sizes) c.index)) c.near)
 
@@ -207,11 +222,11 @@ module _ (sizes I P : List ℕ) (s : Some sizes) (inside : (i : ℕ) → In i I 
       let Q : List ℕ = filter (λ n. test (T n)) (range_with_len 0 (volume L)) in
       same_increasing P Q inc (IsStrictlyIncreasing-filter (λ n. test (T n)) (range_with_len 0 (volume L)) (increasing-range (volume L)))
       (λ n. same_bool (holds P n) (holds Q n)
-      (λ h. let c : IsCellAt n = found-cell n (holds-In P h) in
-        In-holds (In-filter (λ m. test (T m)) (range-In (volume L) n c.below) (flat-any (same (T n)) (λ i. faces (voxel i)) (tuple_at (strides_of sizes)) c.index I c.there_is (near-any (vox c.index) (T n) c.near))))
+      (λ h. let c : IsCellAt sizes I s inside n = found-cell n (holds-In P h) in
+      In-holds (In-filter (λ m. test (T m)) (range-In (volume L) n c.below) (flat-any (same (T n)) (λ i. faces (voxel i)) (tuple_at (strides_of sizes)) c.index I c.there_is (near-any (vox c.index) (T n) c.near))))
       (λ h. let i : In n Q = holds-In Q h in
-        let w = any-flat (same (T n)) (λ i. faces (voxel i)) (tuple_at (strides_of sizes)) I (filter-In (λ m. test (T m)) (range_with_len 0 (volume L)) i) in
-        In-holds (cell-found n w.0 (In-range (volume L) n (In-inside (λ m. test (T m)) (range_with_len 0 (volume L)) i)) w.1 (any-near (vox w.0) (T n) (voxel-odd (tuple_at (strides_of sizes) w.0)) w.2))))
+      let w = any-flat (same (T n)) (λ i. faces (voxel i)) (tuple_at (strides_of sizes)) I (filter-In (λ m. test (T m)) (range_with_len 0 (volume L)) i) in
+      In-holds (cell-found n w.0 (In-range (volume L) n (In-inside (λ m. test (T m)) (range_with_len 0 (volume L)) i)) w.1 (any-near (vox w.0) (T n) (voxel-odd (tuple_at (strides_of sizes) w.0)) w.2))))
 
   -- the cells stand at the places
   pub cells-at : cells_of sizes (map (tuple_at (strides_of sizes)) I) ≡ map (tuple_at (strides_of (limits_of sizes))) P
@@ -225,7 +240,7 @@ module _ (sizes I P : List ℕ) (s : Some sizes) (inside : (i : ℕ) → In i I 
       let j : In i I = at-In I 0 0 h in
       let r = near-low (vox i) (voxel-odd (tuple_at (strides_of sizes) i)) in
       let t : List ℕ = r.0 in
-      let within : IsWithin L t = near-within L (vox i) t (inner i j) r.1 in
+      let within : IsWithin L t = near-within L (vox i) t (inner sizes I s inside i j) r.1 in
       let n : ℕ = place_of L t in
       let at : T n ≡ t = tuple-place L t within in
       let there_is : In n P = cell-found n i (place-below L t within) j (subst (IsNear (vox i)) (sym at) r.1) in
@@ -238,18 +253,18 @@ module _ (sizes I P : List ℕ) (s : Some sizes) (inside : (i : ℕ) → In i I 
       let f : ℕ → ℕ = voxel_place (strides_of sizes) (strides_of (limits_of sizes)) in
       let C : List ℕ = map f I in
       let up : IsStrictlyIncreasing C = λ k l.
-        let m : k + 1 < length I = omega (arith, l, length-map I f) in
-        let a : get_or C k 0 ≡ f (get_or I k 0) = get_or-map f I k 0 0 (omega arith) in
-        let b : get_or C (k + 1) 0 ≡ f (get_or I (k + 1) 0) = get_or-map f I (k + 1) 0 0 m in
-        omega (arith, a, b, voxel_place-rises sizes (get_or I k 0) (get_or I (k + 1) 0) s (rises k m) (inside (get_or I (k + 1) 0) (at-In I (k + 1) 0 m))) in
+      let m : k + 1 < length I = omega (arith, l, length-map I f) in
+      let a : get_or C k 0 ≡ f (get_or I k 0) = get_or-map f I k 0 0 (omega arith) in
+      let b : get_or C (k + 1) 0 ≡ f (get_or I (k + 1) 0) = get_or-map f I (k + 1) 0 0 m in
+      omega (arith, a, b, voxel_place-rises sizes (get_or I k 0) (get_or I (k + 1) 0) s (rises k m) (inside (get_or I (k + 1) 0) (at-In I (k + 1) 0 m))) in
       let C-in : (n : ℕ) → In n C → In n P = λ n i.
-        let w = map-In f I i in
-        let v : List ℕ = vox w.0 in
-        let within : IsWithin L v = near-within L v v (inner w.0 w.1) (near-self v) in
-        let e : n ≡ place_of L v = w.2 ∙ voxel_place-is sizes w.0 in
-        cell-found n w.0 (subst (λ (k : ℕ). k < volume L) (sym e) (place-below L v within)) w.1 (subst (IsNear v) (sym (ap T e ∙ tuple-place L v within)) (near-self v)) in
+      let w = map-In f I i in
+      let v : List ℕ = vox w.0 in
+      let within : IsWithin L v = near-within L v v (inner sizes I s inside w.0 w.1) (near-self v) in
+      let e : n ≡ place_of L v = w.2 ∙ voxel_place-is sizes w.0 in
+      cell-found n w.0 (subst (λ (k : ℕ). k < volume L) (sym e) (place-below L v within)) w.1 (subst (IsNear v) (sym (ap T e ∙ tuple-place L v within)) (near-self v)) in
       let same_list : C ≡ filter (holds C) P = same_increasing C (filter (holds C) P) up (IsStrictlyIncreasing-filter (holds C) P inc)
-        (λ n. same_bool (holds C n) (holds (filter (holds C) P) n) (λ h. In-holds (In-filter (holds C) (C-in n (holds-In C h)) h)) (λ h. filter-In (holds C) P (holds-In (filter (holds C) P) h))) in
+      (λ n. same_bool (holds C n) (holds (filter (holds C) P) n) (λ h. In-holds (In-filter (holds C) (C-in n (holds-In C h)) h)) (λ h. filter-In (holds C) P (holds-In (filter (holds C) P) h))) in
       omega (arith, length-map I f, ap (λ (xs : List ℕ). length xs) same_list, length-filter-le (holds C) P)
 
 -- ---- how large the box is

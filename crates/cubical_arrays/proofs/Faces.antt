@@ -1,14 +1,14 @@
 -- The places of a voxel and its faces.
-use Rattle.std.proofs.Common.{◌≡◌, ◌⊎◌, inl, inr, ℕ, zero, suc, ◌+◌, ◌-◌, ◌*◌, ◌/◌, ◌%◌, ◌<◌, ◌≤◌, List, [], ◌∷◌, ◌++◌, Bool, true, false, ◌||◌, ◌&&◌, ◌==◌, eqb, map, length, sum, refl, ap, sym, ◌∙◌, arith, subst}
-use Rattle.std.specs.List.{flat_map, list_any}
+use Rattle.std.proofs.Common.{◌≡◌, ◌⊎◌, inl, inr, ℕ, zero, suc, ◌+◌, ◌-◌, ◌*◌, ◌/◌, ◌%◌, ◌<◌, ◌≤◌, List, [], ◌∷◌, ◌++◌, Bool, true, false, ◌||◌, ◌&&◌, eqb, map, sum, refl, ap, sym, ◌∙◌, arith, subst}
+use Rattle.std.specs.List.{list_any}
 use Rattle.std.proofs.lemmas.List.{map-append, append-nil}
 use Rattle.std.proofs.lemmas.List.Folds.{list_any-append}
 use Rattle.std.proofs.lemmas.List.Sums.{sum_by-cons}
 use Rattle.std.proofs.lemmas.Bool.{eq-eqb, eqb-true, false≢true}
 use Rattle.regular_check.proofs.Members.{and-left, and-right, and-both, or-left, or-right, or-cases}
 use Rattle.array_values.specs.Bits.{volume}
-use Rattle.array_readers.specs.Tuples.{same, is_odd}
-use Rattle.array_readers.proofs.Triples.{map_twice, map_same}
+use Rattle.array_readers.specs.Tuples.{same}
+use Rattle.array_readers.proofs.Triples.{map_twice}
 use Rattle.cubical_arrays.specs.Voxels.{faces, voxel, limits_of}
 use Rattle.cubical_arrays.specs.Places.{strides_of, tuple_at, voxel_place, face_places}
 use Rattle.cubical_arrays.proofs.Boxes.{IsWithin, place_of}
@@ -129,10 +129,10 @@ near-any (c ∷ cs) (d ∷ ds) h =
     ∙ elim h.0 [
       | inl q ↦ or-left (list_any p (line (c - 1))) (list_any p (line c) || (list_any p (line (c + 1)) || false)) (r (c - 1) (omega arith))
       | inr q ↦ or-right (list_any p (line (c - 1))) (list_any p (line c) || (list_any p (line (c + 1)) || false))
-        (elim q [
-          | inl s ↦ or-left (list_any p (line c)) (list_any p (line (c + 1)) || false) (r c s)
-          | inr s ↦ or-right (list_any p (line c)) (list_any p (line (c + 1)) || false) (or-left (list_any p (line (c + 1))) false (r (c + 1) s))
-        ])
+          (elim q [
+            | inl s ↦ or-left (list_any p (line c)) (list_any p (line (c + 1)) || false) (r c s)
+            | inr s ↦ or-right (list_any p (line c)) (list_any p (line (c + 1)) || false) (or-left (list_any p (line (c + 1))) false (r (c + 1) s))
+          ])
     ]
 
 -- all coordinates are odd

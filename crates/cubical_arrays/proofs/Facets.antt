@@ -1,11 +1,10 @@
 -- The places of the facets of a cell.
-use Rattle.std.proofs.Common.{◌≡◌, ◌⊎◌, inl, inr, ℕ, zero, suc, ◌+◌, ◌-◌, ◌*◌, ◌/◌, ◌%◌, ◌<◌, ◌≤◌, List, [], ◌∷◌, ◌++◌, Bool, true, false, cond, map, length, refl, ap, sym, ◌∙◌, arith, subst}
+use Rattle.std.proofs.Common.{◌≡◌, ◌⊎◌, inl, inr, ℕ, zero, suc, ◌+◌, ◌-◌, ◌*◌, ◌/◌, ◌%◌, ◌<◌, ◌≤◌, List, [], ◌∷◌, ◌++◌, Bool, true, false, cond, map, refl, ap, sym, ◌∙◌, arith, subst}
 use Rattle.std.specs.List.{All}
 use Rattle.std.proofs.Math.Nat.{mul_comm}
-use Rattle.std.proofs.lemmas.Nat.{div-mul-add, mod-mul-add, div-add-mod', mod_below, div_below}
-use Rattle.std.proofs.lemmas.Bool.{false≢true}
+use Rattle.std.proofs.lemmas.Nat.{div-add-mod', mod_below, div_below}
 use Rattle.std.proofs.lemmas.List.{map-append}
-use Rattle.regular_check.proofs.Members.{In, here, there, append-In, In-left, In-right}
+use Rattle.regular_check.proofs.Members.{In, here, there, append-In}
 use Rattle.array_values.specs.Bits.{volume}
 use Rattle.array_readers.specs.Tuples.{is_odd, dim_of}
 use Rattle.array_readers.proofs.Neighbors.{dim-cons, odd-is, even-is}
@@ -172,9 +171,9 @@ facets-are (l ∷ ls) p s odd h =
     let e : c * V + p % V ≡ p = div-add-mod' p V in
     let K : List ℕ = facet_places ss (p % V) in
     let tail : map T (facets_from ss p (p % V)) ≡ map (λ u. c ∷ u) (facets t) =
-      (ap (map T) (rest-shift p V ss (some_strides ls some)) ∙ (map_twice T (λ x. c * V + x) K
-      ∙ (map_same_In (λ x. T (c * V + x)) (λ x. c ∷ tuple_at ss x) K (λ k i. tuple-row c k ls (are_facets ls (p % V) some oddly r k i).below)
-      ∙ (sym (map_twice (λ u. c ∷ u) (tuple_at ss) K) ∙ ap (map (λ u. c ∷ u)) (facets-are ls (p % V) some oddly r))))) in
+    (ap (map T) (rest-shift p V ss (some_strides ls some)) ∙ (map_twice T (λ x. c * V + x) K
+    ∙ (map_same_In (λ x. T (c * V + x)) (λ x. c ∷ tuple_at ss x) K (λ k i. tuple-row c k ls (are_facets ls (p % V) some oddly r k i).below)
+    ∙ (sym (map_twice (λ u. c ∷ u) (tuple_at ss) K) ∙ ap (map (λ u. c ∷ u)) (facets-are ls (p % V) some oddly r))))) in
     map-append T (cond (is_odd c) ((p - V) ∷ (p + V) ∷ []) []) (facets_from ss p (p % V))
     ∙ (ap (λ (us : List (List ℕ)). us ++ map T (facets_from ss p (p % V))) (heads (is_odd c) (λ o. back c V (p % V) p (let oc : c % 2 ≡ 1 = odd-is c o in omega arith) e) r e refl)
     ∙ ap (λ (us : List (List ℕ)). cond (is_odd c) (((c - 1) ∷ t) ∷ ((c + 1) ∷ t) ∷ []) [] ++ us) tail)

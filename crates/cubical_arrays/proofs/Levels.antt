@@ -1,6 +1,5 @@
 -- One direction more.
-use Rattle.std.proofs.Common.{◌≡◌, ◌⊎◌, inl, inr, ℕ, zero, suc, ◌+◌, ◌-◌, ◌*◌, ◌/◌, ◌%◌, ◌<◌, ◌≤◌, List, [], ◌∷◌, ◌++◌, Bool, true, false, cond, drop, take, length, get_or, sum, map, filter, eqb, set, refl, ap, sym, ◌∙◌, arith}
-use Rattle.std.specs.List.{All}
+use Rattle.std.proofs.Common.{◌≡◌, ◌⊎◌, inl, inr, ℕ, zero, suc, ◌+◌, ◌-◌, ◌*◌, ◌/◌, ◌%◌, ◌<◌, ◌≤◌, List, [], ◌∷◌, ◌++◌, Bool, true, false, cond, drop, take, length, get_or, sum, refl, ap, sym, ◌∙◌, arith}
 use Rattle.std.proofs.Math.Nat.{mul-le-mul_right}
 use Rattle.std.proofs.Math.Seq.{drop-cons}
 use Rattle.std.proofs.lemmas.List.{take_more}
@@ -8,8 +7,7 @@ use Rattle.std.proofs.lemmas.List.Sums.{sum_by-cons}
 use Rattle.std.proofs.lemmas.Bool.{eq-eqb, ne_eqb, false≢true}
 use Rattle.array_values.specs.Bits.{volume}
 use Rattle.array_readers.specs.Tuples.{is_odd}
-use Rattle.array_readers.proofs.Neighbors.{dim-cons, even-is, odd-is}
-use Rattle.regular_check.proofs.Passing.{not_true}
+use Rattle.array_readers.proofs.Neighbors.{dim-cons, odd-is}
 use Rattle.cubical_arrays.specs.Places.{strides_of, tuple_at, dim_at, voxel_place, face_places, facets_from}
 use Rattle.cubical_arrays.proofs.Boxes.{Some, all-head, all-tail}
 

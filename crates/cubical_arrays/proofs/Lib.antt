@@ -8,3 +8,6 @@ pub mod Levels
 pub mod Ones
 pub mod Finding
 pub mod Adding
+pub mod Spaces
+pub mod Arrays
+pub mod Examples

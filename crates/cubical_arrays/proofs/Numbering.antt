@@ -1,8 +1,8 @@
 -- The numbers of the facets of a cell.
-use Rattle.std.proofs.Common.{◌≡◌, ◌⊎◌, inl, inr, ℕ, zero, suc, ◌+◌, ◌-◌, ◌<◌, ◌≤◌, List, [], ◌∷◌, ◌++◌, Bool, true, false, cond, ◌||◌, ◌&&◌, eqb, nat_lt, filter, map, length, get_or, take, set, Contains, refl, ap, sym, ◌∙◌, subst, arith}
+use Rattle.std.proofs.Common.{◌≡◌, inl, inr, ℕ, zero, suc, ◌+◌, ◌-◌, ◌<◌, ◌≤◌, List, [], ◌∷◌, Bool, true, false, cond, ◌||◌, ◌&&◌, eqb, nat_lt, filter, map, length, get_or, take, set, Contains, refl, ap, sym, ◌∙◌, subst, arith}
 use Rattle.std.specs.List.{list_any, All}
 use Rattle.std.specs.List.Sorted.{IsStrictlyIncreasing}
-use Rattle.std.proofs.lemmas.Bool.{eq-eqb, eqb-true, cases_lt, ltb-true, lt-ltb}
+use Rattle.std.proofs.lemmas.Bool.{eq-eqb, cases_lt, ltb-true, lt-ltb}
 use Rattle.std.proofs.lemmas.Bool.Decides.{eqb_tells}
 use Rattle.std.proofs.lemmas.List.{get_or-map, length-map, length-append, take_more, get_or-set_same, get_or-set_other}
 use Rattle.std.proofs.lemmas.List.Elements.{filter-append}
@@ -10,7 +10,7 @@ use Rattle.std.proofs.lemmas.List.Kept.{IsStrictlyIncreasing-filter, AllPairs-fr
 use Rattle.face_poset.specs.Words.{upto, holds}
 use Rattle.face_poset.specs.Poset.{IsCell}
 use Rattle.face_poset.proofs.Members.{same_increasing, increasing-upto, increasing_head, increasing_tail, holds-from, Contains-from_holds}
-use Rattle.regular_check.proofs.Members.{In, here, there, In-filter, In-inside, filter-In, any-In, any-some, holds-In, In-holds, In-at, at-In}
+use Rattle.regular_check.proofs.Members.{In, here, In-filter, In-inside, filter-In, any-In, any-some, holds-In, In-holds, In-at, at-In}
 use Rattle.regular_check.proofs.Passing.{same_bool, not_true}
 use Rattle.regular_check.proofs.Joined.{In-upto, upto-In}
 use Rattle.array_values.specs.Bits.{volume}

@@ -1,6 +1,6 @@
 -- The places of the bits that are 1.
-use Rattle.std.proofs.Common.{◌≡◌, ℕ, zero, suc, ◌+◌, ◌<◌, ◌≤◌, List, [], ◌∷◌, ◌++◌, Bool, true, false, cond, ◌||◌, map, take, length, get_or, refl, ap, sym, ◌∙◌, subst, arith}
-use Rattle.std.specs.List.{list_any, items_where_true, range_with_len, All}
+use Rattle.std.proofs.Common.{◌≡◌, ℕ, zero, suc, ◌+◌, ◌<◌, ◌≤◌, List, [], ◌∷◌, ◌++◌, Bool, true, false, cond, map, take, length, get_or, refl, ap, sym, ◌∙◌, subst, arith}
+use Rattle.std.specs.List.{list_any, items_where_true, range_with_len}
 use Rattle.std.specs.List.Sorted.{IsStrictlyIncreasing}
 use Rattle.std.proofs.lemmas.Bool.{false≢true}
 use Rattle.std.proofs.lemmas.List.{take_more, length-take-le}
@@ -44,8 +44,8 @@ rises-cons x ys h r (suc k) l =
     subst (λ (n : ℕ). get_or ys k 0 < get_or (x ∷ ys) n 0) (sym e) (r k (omega arith))
 
 pub where-rises : (bs : List Bool) (xs : List ℕ) → IsStrictlyIncreasing xs → IsStrictlyIncreasing (items_where_true bs xs)
-where-rises [] xs h k l = absurd (omega arith)
-where-rises (b ∷ bs) [] h k l = absurd (omega arith)
+where-rises [] xs h = λ k l. absurd (omega arith)
+where-rises (b ∷ bs) [] h = λ k l. absurd (omega arith)
 where-rises (true ∷ bs) (x ∷ xs) h =
     rises-cons x (items_where_true bs xs) (λ y i. let w = In-at (where-In bs xs i) in let m : x < get_or xs w.0 0 = increasing_head x xs h w.0 0 w.1 in omega (arith, m, w.2)) (where-rises bs xs (increasing_tail x xs h))
 where-rises (false ∷ bs) (x ∷ xs) h = where-rises bs xs (increasing_tail x xs h)

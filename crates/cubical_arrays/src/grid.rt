@@ -12,7 +12,10 @@ use std::alloc::{AllocError, Global};
 pub(crate) fn limits(alloc: Global, sizes: &[u32]) -> Result<Vec<usize>, AllocError>
     ensures { IfOk result (λ limits. limits.items ≡ limits_of sizes.now) }
 {
-    sizes.iter().map(|size| 2 * *size as usize + 1).collect(alloc)
+    sizes
+        .iter()
+        .map(|size| 2 * *size as usize + 1)
+        .collect(alloc)
 }
 
 /// The sizes as limits of the indices of the voxels.

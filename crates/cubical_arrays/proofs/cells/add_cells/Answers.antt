@@ -1,13 +1,12 @@
-use Rattle.std.proofs.Common.{◌≡◌, ◌≢◌, ◌<◌, ◌≤◌, ◌+◌, ◌-◌, ◌++◌, ◌∷◌, [], ℕ, List, Bool, true, length, take, get_or, Result, Ok, Err, OnOk, is_ok, refl, ap, sym, ◌∙◌, arith}
+use Rattle.std.proofs.Common.{◌≡◌, ℕ, List, true, take, get_or, Result, Ok, Err, OnOk, is_ok, refl, ap, sym, ◌∙◌, arith}
 use Rattle.std.proofs.lemmas.Bool.{false≢true}
-use Rattle.std.proofs.lemmas.List.{take_more, take_all}
+use Rattle.std.proofs.lemmas.List.{take_more}
 use Rattle.face_poset.specs.declared.builder.BuildFault.{BuildFault}
 use Rattle.regular_check.proofs.Members.{In, at-In}
-use Rattle.array_values.specs.Bits.{volume}
-use Rattle.cubical_arrays.specs.Places.{dim_at, stage, IsClosed}
+use Rattle.cubical_arrays.specs.Places.{stage}
 use Rattle.cubical_arrays.proofs.Finding.{from_In}
-use Rattle.cubical_arrays.proofs.Stages.{stage-idle, stage-end}
-use Rattle.cubical_arrays.proofs.Adding.{facets_at, facets_sorted, vertex_facets, facets_fit, one_more}
+use Rattle.cubical_arrays.proofs.Stages.{stage-idle}
+use Rattle.cubical_arrays.proofs.Adding.{facets_sorted, vertex_facets, facets_fit, one_more}
 use Rattle.cubical_arrays.proofs.cells.add_cells.Goals as goal
 use Rattle.cubical_arrays.proofs.cells.add_cells.Goals.{then-dimension-dim+in_ok-list_facets+in_ok-map_err, else-dimension-dim}
 

@@ -1,5 +1,5 @@
-use Rattle.std.proofs.Common.{◌≡◌, ◌<◌, ◌≤◌, ◌+◌, ◌-◌, ◌/◌, ℕ, arith}
-use Rattle.cubical_arrays.proofs.Finding.{first_between, upper_half, lower_half}
+use Rattle.std.proofs.Common.{◌<◌, ◌+◌, ◌-◌, ◌/◌, ℕ, arith}
+use Rattle.cubical_arrays.proofs.Finding.{upper_half, lower_half}
 use Rattle.cubical_arrays.proofs.cells.find.Goals as goal
 
 pub loop-high-preserved-then-places-middle : goal.loop-high-preserved-then-places-middle

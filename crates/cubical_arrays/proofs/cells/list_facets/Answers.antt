@@ -1,4 +1,4 @@
-use Rattle.std.proofs.Common.{◌≡◌, ◌<◌, ◌≤◌, ◌+◌, ◌-◌, ◌/◌, ◌%◌, ◌++◌, ◌∷◌, [], ℕ, List, length, map, drop, get_or, subst, ap, sym, ◌∙◌, arith, append_assoc, ◌*◌}
+use Rattle.std.proofs.Common.{◌≡◌, ◌≤◌, ◌+◌, ◌-◌, ◌/◌, ◌%◌, ◌++◌, ◌∷◌, [], ℕ, List, map, drop, get_or, subst, ap, sym, ◌∙◌, arith, append_assoc, ◌*◌}
 use Rattle.std.proofs.lemmas.Nat.{div-add-mod'}
 use Rattle.regular_check.proofs.Members.{In, here, there}
 use Rattle.cubical_arrays.specs.Places.{facets_from, facet_places, number_among}
@@ -47,7 +47,7 @@ loop-stride-preserved c =
           let e = facets_from-odd ss i p rest c.loop-stride-test.true w.if-coordinate-eq1.true in
           record {
             listed = ap (λ (xs : List ℕ). xs ++ map f part) (ap (λ v. v.items) w.facets-is)
-              ∙ two_more f (map f (facet_places ss p)) c.loop-stride.facets.items w.push.new.self.items w.push-then-coordinate-eq1.new.self.items (facets_from (drop i ss) p rest) part (p - d) (p + d) w.number_at.result w.number_at-then-coordinate-eq1.result
+                ∙ two_more f (map f (facet_places ss p)) c.loop-stride.facets.items w.push.new.self.items w.push-then-coordinate-eq1.new.self.items (facets_from (drop i ss) p rest) part (p - d) (p + d) w.number_at.result w.number_at-then-coordinate-eq1.result
                 e w.number_at.ensures w.number_at-then-coordinate-eq1.ensures w.in_ok-push.ensures.items w.in_ok-push-2.ensures.items c.loop-stride.invariant.listed;
             inside = λ k j. c.loop-stride.invariant.inside k (subst (In k) (sym e) (there (there j)));
             less = less;

@@ -37,5 +37,5 @@ loop-place-preserved c =
       four = length-set counts dim (get_or counts dim 0 + 1) ∙ c.loop-place.invariant.four;
       counted = counts-more ss P counts i dim c.loop-place-test.true c.loop-place.invariant.four c.dimension-dim.ensures.dim c.dimension-dim.ensures.most c.loop-place.invariant.counted;
       numbered = next_numbers ss P c.loop-place.numbers.items c.push.new.self.items counts i dim c.requires.rises c.loop-place-test.true c.loop-place.invariant.four c.dimension-dim.ensures.most c.dimension-dim.ensures.dim
-        (c.loop-place.invariant.counted dim c.dimension-dim.ensures.most) c.in_ok-push.ensures.items c.loop-place.invariant.numbered;
+          (c.loop-place.invariant.counted dim c.dimension-dim.ensures.most) c.in_ok-push.ensures.items c.loop-place.invariant.numbered;
     }

@@ -1,4 +1,4 @@
-use Rattle.std.proofs.Common.{◌≡◌, ◌*◌, ◌+◌, ◌<◌, ℕ, drop, length, get_or, ap, sym, ◌∙◌, arith}
+use Rattle.std.proofs.Common.{◌≡◌, ◌*◌, ◌<◌, ℕ, drop, length, get_or, ap, sym, ◌∙◌, arith}
 use Rattle.array_values.specs.Bits.{volume}
 use Rattle.cubical_arrays.proofs.Levels.{volume-at, volume-drop}
 use Rattle.cubical_arrays.proofs.grid.+volume_from.Goals as goal
