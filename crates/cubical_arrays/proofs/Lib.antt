@@ -1,0 +1,13 @@
+pub mod Boxes
+pub mod Faces
+pub mod Facets
+pub mod Numbering
+pub mod Stages
+pub mod Closing
+pub mod Levels
+pub mod Ones
+pub mod Finding
+pub mod Adding
+pub mod Spaces
+pub mod Arrays
+pub mod Examples
