@@ -82,7 +82,6 @@ shift-once t u (one_more {c = i} {cs = index} l h) (one_more {c} {cs} m k) (one_
 pub shift-facets : {sizes index : List ℕ} (t : List ℕ) → Within sizes index → Within (threes sizes) t → facets (shift index t) ≡ map (shift index) (facets t)
 shift-facets t no_more no_more = refl
 shift-facets t (one_more {c = i} {cs = index} l h) (one_more {c} {cs} m k) =
-    let σs : List ℕ = shift index cs in
     let first : cond (is_odd (2 * i + c)) (((2 * i + c - 1) ∷ shift index cs) ∷ ((2 * i + c + 1) ∷ shift index cs) ∷ []) [] ≡ map (shift (i ∷ index)) (cond (is_odd c) (((c - 1) ∷ cs) ∷ ((c + 1) ∷ cs) ∷ []) []) =
     ap (λ (b : Bool). cond b (((2 * i + c - 1) ∷ shift index cs) ∷ ((2 * i + c + 1) ∷ shift index cs) ∷ []) []) (odd-shift i c) ∙ by_test i c index cs (is_odd c) refl in
     let others : map (λ v. (2 * i + c) ∷ v) (facets (shift index cs)) ≡ map (shift (i ∷ index)) (map (λ v. c ∷ v) (facets cs)) =
@@ -108,24 +107,24 @@ pub record IsMoved (sizes index t u : List ℕ) : Type 0 where
   pub small : Within (threes sizes) u
   pub is : t ≡ shift index u
 
--- one coordinate
-coordinate : (i d : ℕ) → Among d ((2 * i + 1 - 1) ∷ (2 * i + 1) ∷ (2 * i + 1 + 1) ∷ []) → (c : ℕ) × (c < 3) × (d ≡ 2 * i + c)
+-- the coordinates of the faces in one direction
+abbrev near : ℕ → List ℕ
+near c = (c - 1) ∷ c ∷ (c + 1) ∷ []
+
+coordinate : (i d : ℕ) → Among d (near (2 * i + 1)) → (c : ℕ) × (c < 3) × (d ≡ 2 * i + c)
 coordinate i d k = by_place k
   where
-    by_place : {e : ℕ} → Among e ((2 * i + 1 - 1) ∷ (2 * i + 1) ∷ (2 * i + 1 + 1) ∷ []) → (c : ℕ) × (c < 3) × (e ≡ 2 * i + c)
+    by_place : {e : ℕ} → Among e (near (2 * i + 1)) → (c : ℕ) × (c < 3) × (e ≡ 2 * i + c)
     by_place here = (0, omega arith, omega arith)
     by_place (there here) = (1, omega arith, refl)
     by_place (there (there here)) = (2, omega arith, omega arith)
     by_place (there (there (there j))) = elim j [ ]
 
-coordinate-back : (i c : ℕ) → c < 3 → Among (2 * i + c) ((2 * i + 1 - 1) ∷ (2 * i + 1) ∷ (2 * i + 1 + 1) ∷ [])
-coordinate-back i zero l = let e : 2 * i + 1 - 1 ≡ 2 * i + zero = omega arith in subst (λ (n : ℕ). Among n ((2 * i + 1 - 1) ∷ (2 * i + 1) ∷ (2 * i + 1 + 1) ∷ [])) e here
-coordinate-back i (suc zero) l = let e : 2 * i + 1 ≡ 2 * i + suc zero = omega arith in subst (λ (n : ℕ). Among n ((2 * i + 1 - 1) ∷ (2 * i + 1) ∷ (2 * i + 1 + 1) ∷ [])) e (there here)
-coordinate-back i (suc (suc zero)) l = let e : 2 * i + 1 + 1 ≡ 2 * i + suc (suc zero) = omega arith in subst (λ (n : ℕ). Among n ((2 * i + 1 - 1) ∷ (2 * i + 1) ∷ (2 * i + 1 + 1) ∷ [])) e (there (there here))
+coordinate-back : (i c : ℕ) → c < 3 → Among (2 * i + c) (near (2 * i + 1))
+coordinate-back i zero l = let e : 2 * i + 1 - 1 ≡ 2 * i + zero = omega arith in subst (λ (n : ℕ). Among n (near (2 * i + 1))) e here
+coordinate-back i (suc zero) l = let e : 2 * i + 1 ≡ 2 * i + suc zero = omega arith in subst (λ (n : ℕ). Among n (near (2 * i + 1))) e (there here)
+coordinate-back i (suc (suc zero)) l = let e : 2 * i + 1 + 1 ≡ 2 * i + suc (suc zero) = omega arith in subst (λ (n : ℕ). Among n (near (2 * i + 1))) e (there (there here))
 coordinate-back i (suc (suc (suc c))) l = absurd (omega arith)
-
-abbrev near : ℕ → List ℕ
-near c = (c - 1) ∷ c ∷ (c + 1) ∷ []
 
 pub face-moved : (sizes index t : List ℕ) → Within sizes index → Among t (faces (voxel index)) → (u : List ℕ) × IsMoved sizes index t u
 face-moved [] index t no_more i = by_place i
@@ -134,7 +133,7 @@ face-moved [] index t no_more i = by_place i
     by_place here = ([], record { small = no_more; is = refl })
     by_place (there j) = elim j [ ]
 face-moved (size ∷ sizes) index t (one_more {c = i} {cs = rest} l h) k =
-    let r = flat_map-Among (λ (d : ℕ). map (λ v. d ∷ v) (faces (voxel rest))) ((2 * i + 1 - 1) ∷ (2 * i + 1) ∷ (2 * i + 1 + 1) ∷ []) k in
+    let r = flat_map-Among (λ (d : ℕ). map (λ v. d ∷ v) (faces (voxel rest))) (near (2 * i + 1)) k in
     let s = map-Among (λ v. r.0 ∷ v) (faces (voxel rest)) r.2 in
     let a = coordinate i r.0 r.1 in
     let b = face-moved sizes rest s.0 h s.1 in
