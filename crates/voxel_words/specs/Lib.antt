@@ -1,0 +1,2 @@
+pub mod Voxels
+pub mod Laws
