@@ -6,7 +6,7 @@ use Rattle.face_poset.specs.Poset.{IsCell, layer, count}
 use Rattle.regular_check.proofs.Members.{In}
 use Rattle.array_values.specs.Bits.{volume}
 use Rattle.array_readers.specs.Tuples.{cells_in, numbers_in}
-use Rattle.cubical_arrays.specs.Voxels.{facets}
+use Rattle.voxel_words.specs.Voxels.{facets}
 use Rattle.cubical_arrays.specs.Places.{strides_of, tuple_at, dim_at, facet_places, number_among, stage, IsClosed}
 use Rattle.cubical_arrays.proofs.Numbering.{sorted_facets, no_facets, cell_facets}
 use Rattle.cubical_arrays.proofs.Stages.{stage-more, stage-below}

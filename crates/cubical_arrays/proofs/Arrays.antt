@@ -5,7 +5,7 @@ use Rattle.std.specs.List.Sorted.{IsStrictlyIncreasing}
 use Rattle.std.proofs.lemmas.List.FromFn.{length-range_with_len}
 use Rattle.regular_check.proofs.Members.{at-In}
 use Rattle.array_values.specs.Bits.{volume}
-use Rattle.cubical_arrays.specs.Voxels.{boxed}
+use Rattle.voxel_words.specs.Voxels.{boxed}
 use Rattle.cubical_arrays.specs.Places.{strides_of, tuple_at}
 use Rattle.cubical_arrays.proofs.Boxes.{Some, boxed-is}
 use Rattle.cubical_arrays.proofs.Closing.{some-sizes, increasing-range, In-range}

@@ -9,7 +9,7 @@ use Rattle.std.proofs.lemmas.List.FromFn.{length-map-range_with_len, get_or-map-
 use Rattle.array_values.specs.Bits.{volume}
 use Rattle.array_readers.proofs.Places.{range-more}
 use Rattle.array_readers.proofs.Triples.{map_twice}
-use Rattle.cubical_arrays.specs.Voxels.{boxed}
+use Rattle.voxel_words.specs.Voxels.{boxed}
 use Rattle.cubical_arrays.specs.Places.{strides_of, tuple_at}
 
 abbrev pub Some : List ℕ → Type 0

@@ -19,7 +19,7 @@ use Rattle.array_readers.specs.Tuples.{same, dim_of}
 use Rattle.array_readers.proofs.Neighbors.{dim-cons, even-is}
 use Rattle.array_readers.proofs.Numbering.{map-In}
 use Rattle.array_readers.proofs.Triples.{filter_map, same-eq, eq-same}
-use Rattle.cubical_arrays.specs.Voxels.{voxel, faces, limits_of, cells_of}
+use Rattle.voxel_words.specs.Voxels.{voxel, faces, limits_of, cells_of}
 use Rattle.cubical_arrays.specs.Places.{strides_of, tuple_at, dim_at, voxel_place, face_places, facet_places, count_at}
 use Rattle.cubical_arrays.proofs.Boxes.{Some, all-head, all-tail, IsWithin, place_of, some-volume, place-below, tuple-place, place-tuple, tuple-within, boxed-is}
 use Rattle.cubical_arrays.proofs.Faces.{IsInner, IsNear, IsOdd, voxel-inner, voxel-odd, faces-are, voxel_place-is, near-any, any-near}

@@ -3,7 +3,7 @@ use Rattle.std.proofs.Common.{◌≡◌, refl, ◌∷◌, [], List, ℕ, Result,
 use Rattle.gap_text.specs.Value.{Value, number, list, values}
 use Rattle.array_values.specs.declared.fault.ArrayFault.{ArrayFault}
 use Rattle.array_values.specs.declared.fault.ArrayFault.TheVariants.{Ragged, BadDimension}
-use Rattle.cubical_arrays.specs.Voxels.{cubical_of}
+use Rattle.voxel_words.specs.Voxels.{cubical_of}
 
 abbrev at : ℕ → List Value → Value
 at p vs = list p (values vs)

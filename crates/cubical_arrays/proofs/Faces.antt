@@ -9,7 +9,7 @@ use Rattle.regular_check.proofs.Members.{and-left, and-right, and-both, or-left,
 use Rattle.array_values.specs.Bits.{volume}
 use Rattle.array_readers.specs.Tuples.{same}
 use Rattle.array_readers.proofs.Triples.{map_twice}
-use Rattle.cubical_arrays.specs.Voxels.{faces, voxel, limits_of}
+use Rattle.voxel_words.specs.Voxels.{faces, voxel, limits_of}
 use Rattle.cubical_arrays.specs.Places.{strides_of, tuple_at, voxel_place, face_places}
 use Rattle.cubical_arrays.proofs.Boxes.{IsWithin, place_of}
 

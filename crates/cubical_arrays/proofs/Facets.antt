@@ -10,7 +10,7 @@ use Rattle.array_readers.specs.Tuples.{is_odd, dim_of}
 use Rattle.array_readers.proofs.Neighbors.{dim-cons, odd-is, even-is}
 use Rattle.array_readers.proofs.Numbering.{In-map, map-In}
 use Rattle.array_readers.proofs.Triples.{map_twice}
-use Rattle.cubical_arrays.specs.Voxels.{facets, limits_of}
+use Rattle.voxel_words.specs.Voxels.{facets, limits_of}
 use Rattle.cubical_arrays.specs.Places.{strides_of, tuple_at, dim_at, facets_from, facet_places}
 use Rattle.cubical_arrays.proofs.Boxes.{Some, all-head, all-tail, some-volume, row-below, tuple-row}
 use Rattle.cubical_arrays.proofs.Faces.{IsBeside, IsNear, IsOdd}

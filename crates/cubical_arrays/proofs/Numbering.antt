@@ -17,7 +17,7 @@ use Rattle.array_values.specs.Bits.{volume}
 use Rattle.array_readers.specs.Tuples.{same, dim_of, cells_in, numbers_in}
 use Rattle.array_readers.proofs.Numbering.{In-map, map-In}
 use Rattle.array_readers.proofs.Triples.{filter_map, same-eq, eq-same}
-use Rattle.cubical_arrays.specs.Voxels.{facets}
+use Rattle.voxel_words.specs.Voxels.{facets}
 use Rattle.cubical_arrays.specs.Places.{strides_of, tuple_at, dim_at, facet_places, number_among}
 use Rattle.cubical_arrays.proofs.Boxes.{Some, tuple_once}
 use Rattle.cubical_arrays.proofs.Facets.{OddBox, IsFacetOf, are_facets, facets-are, some_facet}

@@ -11,7 +11,7 @@ use Rattle.regular_check.proofs.Passing.{not_true}
 use Rattle.array_values.specs.declared.fault.ArrayFault.TheVariants.{TooManyCells}
 use Rattle.array_values.specs.Bits.{volume}
 use Rattle.array_readers.specs.Tuples.{space_of}
-use Rattle.cubical_arrays.specs.Voxels.{facets, limits_of, cells_of, limited, voxel_space}
+use Rattle.voxel_words.specs.Voxels.{facets, limits_of, cells_of, limited, voxel_space}
 use Rattle.cubical_arrays.specs.Places.{strides_of, tuple_at, voxel_place, face_places, facet_places, count_at, IsClosed}
 use Rattle.cubical_arrays.proofs.Boxes.{Some}
 use Rattle.cubical_arrays.proofs.Facets.{odd_box, some_box, some_strides}

@@ -3,7 +3,7 @@
 ghost use Rattle.std.specs.Prelude.{◌≡◌, ◌≤◌, ◌<◌, ◌+◌, ◌^◌, ◌++◌, length, drop, sum, IfOk, OnOk};
 ghost use Rattle.std.specs.List.{All};
 ghost use Rattle.array_values.specs.Bits.{volume};
-ghost use Rattle.cubical_arrays.specs.Voxels.{limits_of};
+ghost use Rattle.voxel_words.specs.Voxels.{limits_of};
 ghost use Rattle.cubical_arrays.specs.Places.{strides_of, dim_at, voxel_place, face_places};
 
 use std::alloc::{AllocError, Global};

@@ -11,7 +11,7 @@ use Rattle.face_poset.specs.declared.fault.SpaceFault.{SpaceFault}
 use Rattle.face_poset.specs.Reader.{space_of}
 use Rattle.array_values.specs.declared.fault.ArrayFault.{ArrayFault}
 use Rattle.array_values.specs.declared.fault.ArrayFault.TheVariants.{BadDimension}
-use Rattle.cubical_arrays.specs.Voxels.{cubical_of}
+use Rattle.voxel_words.specs.Voxels.{cubical_of}
 use Rattle.hap_words.specs.declared.command.Kind.{Kind}
 use Rattle.hap_words.specs.declared.command.Kind.TheVariants.{Boundary, Cubical}
 use Rattle.regular_check.specs.declared.fault.RegularFault.{RegularFault}

@@ -6,7 +6,7 @@ use Rattle.gap_text.specs.Value.{Value}
 use Rattle.array_values.specs.declared.fault.ArrayFault.{ArrayFault}
 use Rattle.array_values.specs.Answers.{and_then}
 use Rattle.array_values.specs.Bits.{Bits, array_of}
-use Rattle.cubical_arrays.specs.Voxels.{boxed, voxel_space, cubical_of}
+use Rattle.voxel_words.specs.Voxels.{boxed, voxel_space, cubical_of}
 use Rattle.cubical_arrays.specs.Places.{strides_of, tuple_at}
 use Rattle.cubical_arrays.proofs.Arrays.{IsReady, ready}
 use Rattle.cubical_arrays.proofs.cubes.cubical.Goals as goal

@@ -1,6 +1,6 @@
 use Rattle.std.proofs.Common.{◌≡◌, ℕ, List, [], map, Result, Ok, Err, IfOk, ap, ◌∙◌, arith}
 use Rattle.array_readers.specs.Tuples.{space_of}
-use Rattle.cubical_arrays.specs.Voxels.{facets}
+use Rattle.voxel_words.specs.Voxels.{facets}
 use Rattle.cubical_arrays.specs.Places.{tuple_at, stage}
 use Rattle.cubical_arrays.proofs.Stages.{stage-all}
 use Rattle.cubical_arrays.proofs.voxels.build.Goals as goal

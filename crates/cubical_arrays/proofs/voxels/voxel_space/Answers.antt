@@ -1,7 +1,7 @@
 use Rattle.std.proofs.Common.{◌≡◌, ◌<◌, ◌≤◌, ◌∙◌, ℕ, List, map, Ok, ap, sym, subst, arith}
 use Rattle.array_readers.specs.Tuples.{space_of}
 use Rattle.array_values.specs.Bits.{volume}
-use Rattle.cubical_arrays.specs.Voxels.{facets, limits_of}
+use Rattle.voxel_words.specs.Voxels.{facets, limits_of}
 use Rattle.cubical_arrays.specs.Places.{strides_of, tuple_at, IsClosed, count_at}
 use Rattle.cubical_arrays.proofs.Boxes.{Some}
 use Rattle.cubical_arrays.proofs.Closing.{limits-few}
