@@ -42,3 +42,8 @@ pub returns-clause-fault : goal.returns-clause-fault
 returns-clause-fault c =
     let r : IsReady c.sizes.result.now c.in_ok-array.array.bits c.deref.result.now = ready c.in_ok-array.array.sizes c.sizes.result.now c.in_ok-array.array.bits c.bits-2.result.now c.in_ok-indices.indices.items c.deref.result.now c.sizes.ensures c.bits-2.ensures c.in_ok-indices.ensures c.deref.ensures.value c.in_ok-array.ensures.shape.full c.in_ok-array.ensures.shape.has_one in
     MatchResult-weaker c.voxel_space.result c.voxel_space.ensures.fault (λ _ u. u) (λ fault h ne. spaces (view c.args.nest.now) c.in_ok-array.array c.sizes.result.now c.deref.result.now c.in_ok-array.ensures.array c.sizes.ensures r ∙ h ne)
+
+pub returns-clause-regular : goal.returns-clause-regular
+returns-clause-regular c =
+    let r : IsReady c.sizes.result.now c.in_ok-array.array.bits c.deref.result.now = ready c.in_ok-array.array.sizes c.sizes.result.now c.in_ok-array.array.bits c.bits-2.result.now c.in_ok-indices.indices.items c.deref.result.now c.sizes.ensures c.bits-2.ensures c.in_ok-indices.ensures c.deref.ensures.value c.in_ok-array.ensures.shape.full c.in_ok-array.ensures.shape.has_one in
+    MatchResult-weaker c.voxel_space.result c.voxel_space.ensures.space (λ space h. c.cubical_spaces_are_regular.ensures (view c.args.nest.now) space (spaces (view c.args.nest.now) c.in_ok-array.array c.sizes.result.now c.deref.result.now c.in_ok-array.ensures.array c.sizes.ensures r ∙ h)) (λ _ u. u)
