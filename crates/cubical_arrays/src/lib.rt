@@ -9,3 +9,4 @@ mod tests;
 mod voxels;
 
 pub use cubes::cubical;
+pub use voxels::voxel_space;

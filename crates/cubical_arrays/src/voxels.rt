@@ -76,14 +76,13 @@ fn build(alloc: Global, strides: &[usize], places: &[usize]) -> Result<Space, Al
     builder.finish()
 }
 
-/// The space of the voxels in a box with so many in each direction, and all their faces, or
-/// `TooManyCells` exactly where it has more than 60,000 cells. The voxels are given by the places of
-/// their indices, in increasing order.
-pub(crate) fn voxel_space(
-    alloc: Global,
-    sizes: &[u32],
-    indices: &[usize],
-) -> Result<Space, ArrayFault>
+/// The cubical space of voxels in a box, with all their faces, or `TooManyCells` exactly where it has
+/// more than 60,000 cells.
+///
+/// The box has one to three directions, with as many voxels in each as the sizes say. The indices of a
+/// voxel count from 0 in each direction, and `indices` are the places of these tuples in lexicographic
+/// order, counted from 0, in increasing order. Want of memory may be answered too.
+pub fn voxel_space(alloc: Global, sizes: &[u32], indices: &[usize]) -> Result<Space, ArrayFault>
     requires low { length sizes.now ≤ 3 }
     requires box_some { All (λ size. 1 ≤ size) sizes.now }
     requires box_few { volume sizes.now ≤ 2 ^ 31 }
