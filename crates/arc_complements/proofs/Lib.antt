@@ -1,0 +1,3 @@
+pub mod AnyRow
+pub mod Staying
+pub mod Examples
