@@ -1,6 +1,6 @@
 -- Worked examples of which voxels stay. Two rows, each with the columns 1 and 2.
 use Rattle.std.proofs.Common.{◌≡◌, refl, ◌∷◌, [], List, ℕ, true, false, filter, length}
-use Rattle.cubical_arrays.specs.Voxels.{boxed}
+use Rattle.voxel_words.specs.Voxels.{boxed}
 use Rattle.arc_complements.specs.Complements.{box_of, is_taken, stays}
 
 abbrev rows : List (ℕ × ℕ)

@@ -19,7 +19,7 @@ use Rattle.array_readers.proofs.Places.{range-more}
 use Rattle.array_readers.proofs.Triples.{filter_map}
 use Rattle.array_values.specs.declared.fault.ArrayFault.TheVariants.{TooManyCells}
 use Rattle.array_readers.specs.Tuples.{space_of}
-use Rattle.cubical_arrays.specs.Voxels.{boxed, facets, limits_of, limited, voxel_space}
+use Rattle.voxel_words.specs.Voxels.{boxed, facets, limits_of, limited, voxel_space}
 use Rattle.cubical_arrays.specs.Places.{strides_of, tuple_at}
 use Rattle.cubical_arrays.proofs.Boxes.{Some, boxed-is}
 use Rattle.cubical_arrays.proofs.Closing.{increasing-range, range-In, In-range, flat-cell, cells-at, many-cells}

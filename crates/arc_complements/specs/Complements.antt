@@ -9,7 +9,7 @@ use Rattle.gap_text.specs.Value.{Value}
 use Rattle.array_values.specs.declared.fault.ArrayFault.{ArrayFault}
 use Rattle.array_values.specs.Answers.{and_then}
 use Rattle.array_values.specs.Arcs.{arcs_of}
-use Rattle.cubical_arrays.specs.Voxels.{boxed, voxel_space}
+use Rattle.voxel_words.specs.Voxels.{boxed, voxel_space}
 
 -- the box of so many rows
 abbrev pub box_of : (k : ℕ) → List ℕ

@@ -1,6 +1,7 @@
 ghost use Rattle.std.specs.Prelude.{◌≡◌, ◌≢◌, ◌≤◌, ◌+◌, ◌*◌, length, filter, IfOk, IfErr, Ok, Err};
 ghost use Rattle.std.specs.List.{range_with_len};
 ghost use Rattle.gap_text.specs.Nest.{view};
+ghost use Rattle.regular_check.specs.Rules.{IsRegular};
 ghost use Rattle.array_values.specs.Bits.{volume};
 ghost use Rattle.cubical_arrays.specs.Places.{strides_of, tuple_at};
 ghost use Rattle.arc_complements.specs.Complements.{box_of, stays, arcs_space_of};
@@ -11,6 +12,7 @@ use cubical_arrays::voxel_space;
 use face_poset::Space;
 use gap_text::Nest;
 use std::alloc::{AllocError, Global};
+use voxel_words::kept_voxel_spaces_are_regular;
 
 /// The most rows whose bottom layer of voxels, none of which is taken away, has at most 60,000 voxels.
 const MOST_ROWS: usize = 121;
@@ -22,12 +24,14 @@ const MOST_ROWS: usize = 121;
 /// connectors (2m - 1, 2r - 1, 2) and (2n - 1, 2r - 1, 2). A column c in the rows r < s takes away the
 /// voxels with x = 2c - 1, z = 3 and y from 2r - 1 to 2s - 1. The space is the cubical space of the
 /// voxels that stay. The faults are those of `read_arcs`, in its order, and then `TooManyCells`,
-/// exactly where there are more than 60,000 cells.
+/// exactly where there are more than 60,000 cells. The space is regular.
 pub fn arcs(alloc: Global, nest: &Nest) -> Result<Space, ArrayFault>
     ensures space { IfOk result (λ space. arcs_space_of (view nest.now) ≡ Ok space) }
+    ensures regular { IfOk result IsRegular }
     // Want of memory may be answered to any nest.
     ensures fault { IfErr result (λ fault. fault ≢ ArrayFault.Memory → arcs_space_of (view nest.now) ≡ Err fault) }
 {
+    kept_voxel_spaces_are_regular();
     let presentation = read_arcs(alloc, nest)?;
     let rows = presentation.rows();
     if rows.len() > MOST_ROWS {

@@ -1,4 +1,4 @@
-use Rattle.std.proofs.Common.{◌≡◌, ◌≤◌, ◌<◌, ℕ, List, length, map, Result, Ok, ap, sym, ◌∙◌, subst}
+use Rattle.std.proofs.Common.{◌≡◌, ◌≤◌, ◌<◌, ℕ, List, length, map, Result, Ok, ap, sym, ◌∙◌, subst, arith}
 use Rattle.std.specs.List.{All}
 use Rattle.std.specs.List.Sorted.{IsStrictlyIncreasing}
 use Rattle.std.proofs.lemmas.Result.{MatchResult-weaker}
@@ -8,9 +8,9 @@ use Rattle.array_values.specs.declared.fault.ArrayFault.{ArrayFault}
 use Rattle.array_values.specs.Answers.{and_then}
 use Rattle.array_values.specs.Bits.{volume}
 use Rattle.array_values.specs.Arcs.{arcs_of}
-use Rattle.cubical_arrays.specs.Voxels.{voxel_space}
+use Rattle.voxel_words.specs.Voxels.{voxel_space}
 use Rattle.cubical_arrays.specs.Places.{strides_of, tuple_at}
-use Rattle.arc_complements.specs.Complements.{box_of, complement_of, arcs_space_of}
+use Rattle.arc_complements.specs.Complements.{box_of, stays, complement_of, arcs_space_of}
 use Rattle.arc_complements.proofs.Staying.{some_box, staying, boxed-staying, staying-inside, staying-rises, staying-some, staying-many, too_many}
 use Rattle.arc_complements.proofs.complement.arcs.Goals as goal
 
@@ -52,3 +52,14 @@ returns-clause-fault c =
     let is : staying rows ≡ c.deref.result.now = sym (c.deref.ensures.value ∙ c.in_ok-staying.ensures) in
     MatchResult-weaker c.voxel_space.result c.voxel_space.ensures.fault (λ _ u. u)
     (λ fault h ne. spaces (view c.args.nest.now) rows c.in_ok-presentation.presentation c.in_ok-presentation.ensures.arcs c.rows-rows.ensures ∙ (ap (λ (xs : List ℕ). voxel_space b (map (tuple_at (strides_of b)) xs)) is ∙ h ne))
+
+pub returns-clause-regular : goal.returns-clause-regular
+returns-clause-regular c =
+    let rows : List (ℕ × ℕ) = c.rows-rows.result.now in
+    let given : List (ℕ × ℕ) = c.in_ok-presentation.presentation in
+    let b : List ℕ = box_of (length rows) in
+    let is : staying rows ≡ c.deref.result.now = sym (c.deref.ensures.value ∙ c.in_ok-staying.ensures) in
+    MatchResult-weaker c.voxel_space.result c.voxel_space.ensures.space
+    (λ space h. c.kept_voxel_spaces_are_regular.ensures (box_of (length given)) (stays given) space (omega arith)
+    (sym (ap (λ (r : Result (List (ℕ × ℕ)) ArrayFault). and_then r complement_of) c.in_ok-presentation.ensures.arcs)
+    ∙ (spaces (view c.args.nest.now) rows given c.in_ok-presentation.ensures.arcs c.rows-rows.ensures ∙ (ap (λ (xs : List ℕ). voxel_space b (map (tuple_at (strides_of b)) xs)) is ∙ h)))) (λ _ u. u)
