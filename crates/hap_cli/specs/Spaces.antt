@@ -12,8 +12,9 @@ use Rattle.face_poset.specs.Reader.{space_of}
 use Rattle.array_values.specs.declared.fault.ArrayFault.{ArrayFault}
 use Rattle.array_values.specs.declared.fault.ArrayFault.TheVariants.{BadDimension}
 use Rattle.voxel_words.specs.Voxels.{cubical_of}
+use Rattle.arc_complements.specs.Complements.{arcs_space_of}
 use Rattle.hap_words.specs.declared.command.Kind.{Kind}
-use Rattle.hap_words.specs.declared.command.Kind.TheVariants.{Boundary, Cubical}
+use Rattle.hap_words.specs.declared.command.Kind.TheVariants.{Boundary, Cubical, Arcs}
 use Rattle.regular_check.specs.declared.fault.RegularFault.{RegularFault}
 use Rattle.regular_check.specs.Rules.{first_fault}
 use Rattle.order_complex.specs.Chains.{chain_count}
@@ -31,10 +32,11 @@ abbrev pub of_array : Result (List (List (List ℕ))) ArrayFault → Result (Lis
 of_array (Ok space) = Ok space
 of_array (Err fault) = Err (Array fault)
 
--- the space of a value; an input of one of the other kinds is refused with the words, before it is read
+-- the space of a value; an input of the other kind is refused with the words, before it is read
 abbrev pub space_of_kind : Kind → Value → Result (List (List (List ℕ))) Refusal
 space_of_kind Boundary value = of_value (space_of value)
 space_of_kind Cubical value = of_array (cubical_of value)
+space_of_kind Arcs value = of_array (arcs_space_of value)
 space_of_kind other value = Err (Array BadDimension)
 
 abbrev pub of_text : Kind → Result Value TextFault → Result (List (List (List ℕ))) Refusal

@@ -11,6 +11,7 @@ ghost use Rattle.hap_cli.specs.Outcomes.{Fails, IsStopped};
 use crate::input::{MOST_BYTES, read_input};
 use crate::outcome::Outcome;
 use crate::refusal::Refusal;
+use arc_complements::arcs;
 use array_values::ArrayFault;
 use cubical_arrays::cubical;
 use face_poset::{Space, from_nest};
@@ -29,7 +30,8 @@ fn space_of_nest(alloc: Global, kind: Kind, nest: &Nest) -> Result<Space, Outcom
     match kind {
         Kind::Boundary => Ok(from_nest(alloc, nest)?),
         Kind::Cubical => Ok(cubical(alloc, nest)?),
-        _ => Err(Outcome::Refused(Refusal::Array(ArrayFault::BadDimension))),
+        Kind::Arcs => Ok(arcs(alloc, nest)?),
+        Kind::Permutahedral => Err(Outcome::Refused(Refusal::Array(ArrayFault::BadDimension))),
     }
 }
 

@@ -1,4 +1,4 @@
-// Inputs that are cubical arrays.
+// Inputs that are cubical arrays or arc presentations.
 use crate::running::run_text;
 use std::test::Fail;
 
@@ -46,6 +46,31 @@ fn faults_of_arrays_are_named(rt: HostRuntime) -> Result<(), Fail> {
         (b"[[2],[]]", b"hap: array: not a bit at byte 2\n"),
     ] {
         let told = run_text(alloc, &["cells", "--kind=cubical"], text)?;
+        assert_eq!(rt; told.status, 4);
+        assert_eq!(rt; told.out.bytes(), b"".as_slice());
+        assert_eq!(rt; told.err.bytes(), err);
+    }
+    Ok(())
+}
+
+#[test]
+fn arc_presentations_are_complements(rt: HostRuntime) -> Result<(), Fail> {
+    let alloc = rt.alloc();
+    let told = run_text(alloc, &["check", "--kind", "arcs"], b"[[1,2],[1,2]]")?;
+    assert_eq!(rt; told.status, 0);
+    assert_eq!(rt;
+        told.out.bytes(),
+        b"cells 216 540 434 109\neuler 1\nregular\ncomponents 1\n".as_slice()
+    );
+    for (text, err) in [
+        (
+            b"[[1,2],[1,1]]".as_slice(),
+            b"hap: array: bad pair in row 2\n".as_slice(),
+        ),
+        (b"[[1,2],[1,3],[1,3]]", b"hap: array: column 1\n"),
+        (b"[]", b"hap: array: empty\n"),
+    ] {
+        let told = run_text(alloc, &["cells", "--kind", "arcs"], text)?;
         assert_eq!(rt; told.status, 4);
         assert_eq!(rt; told.out.bytes(), b"".as_slice());
         assert_eq!(rt; told.err.bytes(), err);

@@ -35,7 +35,7 @@ fn other_words_are_usage(rt: HostRuntime) -> Result<(), Fail> {
         &["cells", "--kind=cubical", "--kind=cubical"],
         &["verify", "--kind", "boundary"],
         &["cup"],
-        &["check", "--kind", "arcs"],
+        &["check", "--kind", "permutahedral"],
         &["cells", "--sheets", "2"],
     ];
     for line in lines {

@@ -178,6 +178,7 @@ verb_is_built other = false
 abbrev pub kind_is_built : Kind → Bool
 kind_is_built Boundary = true
 kind_is_built Cubical = true
+kind_is_built Arcs = true
 kind_is_built other = false
 
 abbrev pub is_built : Asked → Bool

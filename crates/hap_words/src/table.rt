@@ -119,5 +119,5 @@ pub fn is_verb_built(verb: Verb) -> bool
 pub fn is_kind_built(kind: Kind) -> bool
     ensures { result ≡ kind_is_built kind }
 {
-    matches!(kind, Kind::Boundary | Kind::Cubical)
+    matches!(kind, Kind::Boundary | Kind::Cubical | Kind::Arcs)
 }
