@@ -75,9 +75,9 @@ only_few limit (Ok space) = if nat_lt limit (chain_count space) then Err (Chains
 only_few limit (Err refusal) = Err refusal
 
 abbrev pub few_reading : Kind → List ℕ → Result (List (List (List ℕ))) Refusal
-few_reading kind bytes = only_few 2000 (regular_reading kind bytes)
+few_reading kind bytes = only_few 700000 (regular_reading kind bytes)
 
 -- the 3-torus of a size; with a modulus, its Betti numbers are wanted
 abbrev pub made : (size : ℕ) → (modulus : Option ℕ) → Result (List (List (List ℕ))) Refusal
 made size None = Ok (torus_of size)
-made size (Some p) = only_few 2000 (Ok (torus_of size))
+made size (Some p) = only_few 700000 (Ok (torus_of size))

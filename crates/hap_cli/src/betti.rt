@@ -13,12 +13,13 @@ ghost use Rattle.hap_cli.specs.Outcomes.{Fails};
 use crate::outcome::Outcome;
 use face_poset::Space;
 use hap_outside::{Failed, Piece, Sink, Steps, write_pieces};
-use plain_betti::{Betti, betti_of};
+use plain_betti::Betti;
+use reduced_betti::betti_of;
 use std::alloc::Global;
 use std::sync::ledger::Ledger;
 
 /// How many chains the order complex may have.
-pub const MOST_CHAINS: u32 = 2_000;
+pub const MOST_CHAINS: u32 = 700_000;
 
 /// The Betti numbers of the order complex of the space, or how the run ends where it has too many chains.
 pub fn few_betti<L: Ledger>(
@@ -29,9 +30,9 @@ pub fn few_betti<L: Ledger>(
 ) -> Result<Betti, Outcome>
     requires { is_modulus modulus ≡ true }
     ensures numbers { IfOk result (AreBetti (mod_ops modulus) space.now) }
-    ensures few { OnOk result (only_few 2000 (Ok space.now) ≡ Ok space.now) }
-    ensures outcome { IfErr result (Fails (only_few 2000 (Ok space.now))) }
-    ensures steps { steps.new ≤ steps.old + most_steps (only_few 2000 (Ok space.now)) }
+    ensures few { OnOk result (only_few 700000 (Ok space.now) ≡ Ok space.now) }
+    ensures outcome { IfErr result (Fails (only_few 700000 (Ok space.now))) }
+    ensures steps { steps.new ≤ steps.old + most_steps (only_few 700000 (Ok space.now)) }
 {
     Ok(betti_of(alloc, space, modulus, MOST_CHAINS, steps)?)
 }

@@ -18,15 +18,16 @@ use array_readers::torus;
 use face_poset::Space;
 use hap_outside::{Failed, Piece, Sink, Steps, write_pieces};
 use order_complex::Chains;
-use plain_betti::{Betti, betti_modulo};
+use plain_betti::Betti;
+use reduced_betti::betti_modulo;
 use std::alloc::Global;
 use std::sync::ledger::Ledger;
 
 /// The chains of the space, or how the run ends where there are too many.
 fn few_chains<'a>(alloc: Global, space: &'a Space) -> Result<Chains<'a>, Outcome>
     ensures chains { IfOk result (λ chains. chains ≡ space.entry.now) }
-    ensures few { OnOk result (only_few 2000 (Ok space.entry.now) ≡ Ok space.entry.now) }
-    ensures outcome { IfErr result (Fails (only_few 2000 (Ok space.entry.now))) }
+    ensures few { OnOk result (only_few 700000 (Ok space.entry.now) ≡ Ok space.entry.now) }
+    ensures outcome { IfErr result (Fails (only_few 700000 (Ok space.entry.now))) }
 {
     Ok(Chains::new(alloc, space, MOST_CHAINS)?)
 }
@@ -120,7 +121,7 @@ fn summarize<K: Sink, L: Ledger>(
     requires modulus { is_modulus modulus ≡ true }
     requires space { space.now ≡ torus_of size }
     requires chains { chains.now ≡ torus_of size }
-    requires few { only_few 2000 (Ok (torus_of size)) ≡ Ok (torus_of size) }
+    requires few { only_few 700000 (Ok (torus_of size)) ≡ Ok (torus_of size) }
     ensures cause { IsEnd (make size (Some modulus)) None ⊥
         (Rose (K.faults out.old) (K.faults out.new)) (K.written out.old) (K.written out.new) result }
     ensures write_told { K.faults out.old < K.faults out.new → result ≡ Outcome.WriteFault }

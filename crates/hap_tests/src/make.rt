@@ -32,6 +32,12 @@ fn tori_have_a_summary(rt: HostRuntime) -> Result<(), Fail> {
             b"torus 2\ncells 8 24 24 8\neuler 0\nchains 64 448 768 384\nbetti 1 3 3 1\n".as_slice(),
             b"".as_slice(),
         ),
+        (
+            "3",
+            0,
+            b"torus 3\ncells 27 81 81 27\neuler 0\nchains 216 1512 2592 1296\nbetti 1 3 3 1\n",
+            b"",
+        ),
         ("15", 5, b"", b"hap: limit: 702000 chains\n"),
     ] {
         let told = run_text(
