@@ -1,0 +1,5 @@
+pub mod ColumnLemmas
+pub mod Viewed
+pub mod Pairwise
+pub mod Placed
+pub mod SignedLemmas

@@ -1,0 +1,7 @@
+//! The reduction of a signed set to the critical cells of a field of pairs.
+#![tactic(auto)]
+
+mod columns;
+mod listing;
+mod substitution;
+mod stage;
