@@ -3,3 +3,5 @@ pub mod Viewed
 pub mod Pairwise
 pub mod Placed
 pub mod SignedLemmas
+pub mod KindLemmas
+pub mod Matching

@@ -27,13 +27,13 @@ map_map_same f g h (x ∷ xs) = ap (λ (y : List ℕ). y ∷ map f xs) (h x) ∙
 -- the coefficient of a cell where each cell has its own
 coefficient_map : (h : ℕ → ℕ) (fs : List ℕ) (a : ℕ) → coefficient fs (map h fs) a ≡ cond (holds fs a) (h a) 0
 coefficient_map h [] a = refl
-coefficient_map h (f ∷ fs) a = by_cases (eqb f a) refl
+coefficient_map h (f ∷ fs) a = by_cases (eqb f a) refl (coefficient_map h fs a)
   where
-    by_cases : (b : Bool) → eqb f a ≡ b → cond (eqb f a) (h f) (coefficient fs (map h fs) a) ≡ cond (eqb f a || holds fs a) (h a) 0
-    by_cases true e =
+    by_cases : (b : Bool) → eqb f a ≡ b → coefficient fs (map h fs) a ≡ cond (holds fs a) (h a) 0 → cond (eqb f a) (h f) (coefficient fs (map h fs) a) ≡ cond (eqb f a || holds fs a) (h a) 0
+    by_cases true e r =
         ap (λ (c : Bool). cond c (h f) (coefficient fs (map h fs) a)) e ∙ (ap h (eqb-true f a e) ∙ sym (ap (λ (c : Bool). cond (c || holds fs a) (h a) 0) e))
-    by_cases false e =
-        ap (λ (c : Bool). cond c (h f) (coefficient fs (map h fs) a)) e ∙ (coefficient_map h fs a ∙ sym (ap (λ (c : Bool). cond (c || holds fs a) (h a) 0) e))
+    by_cases false e r =
+        ap (λ (c : Bool). cond c (h f) (coefficient fs (map h fs) a)) e ∙ (r ∙ sym (ap (λ (c : Bool). cond (c || holds fs a) (h a) 0) e))
 
 -- the columns of lists of cells with a number for each
 row_map : (fac : ℕ → List ℕ) (h : ℕ → ℕ → ℕ) (a : ℕ) (xs : List ℕ) → row_from (map fac xs) (map (λ b. map (h b) (fac b)) xs) a ≡ map (λ b. cond (holds (fac b) a) (h b a) 0) xs
