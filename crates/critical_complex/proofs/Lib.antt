@@ -5,3 +5,4 @@ pub mod Placed
 pub mod SignedLemmas
 pub mod KindLemmas
 pub mod Matching
+pub mod Filling

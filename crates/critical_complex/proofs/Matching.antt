@@ -222,7 +222,10 @@ module _ (F : Ops) (L : IsField F) (space : List (List (List ℕ))) (negative : 
 
     -- two stages of the signed set, one after the other
     pub paired : (s next : Stage) → IsStageOf F space negative pairs dim s → IsStageOf F space negative pairs (dim + 1) next → IsPaired F s next
-    paired s next a b =
-        subst (λ (r : List (List ℕ)). IsMatching F (length s.kinds) (length next.kinds) r s.kinds next.kinds s.pairs) (sym a.rows)
-        (subst (λ (ps : List Match). IsMatching F (length s.kinds) (length next.kinds) (signed_rows F space negative dim) s.kinds next.kinds ps) (sym a.pairs_are)
-        (matching s.kinds next.kinds a.kinds b.kinds))
+    paired s next a b = record {
+      matching =
+          subst (λ (r : List (List ℕ)). IsMatching F (length s.kinds) (length next.kinds) r s.kinds next.kinds s.pairs) (sym a.rows)
+          (subst (λ (ps : List Match). IsMatching F (length s.kinds) (length next.kinds) (signed_rows F space negative dim) s.kinds next.kinds ps) (sym a.pairs_are)
+          (matching s.kinds next.kinds a.kinds b.kinds));
+      cols = a.cols ∙ sym b.kinds.long;
+    }

@@ -5,14 +5,7 @@ use Rattle.std.proofs.lemmas.List.{take_more, length-take-le, get_or_default}
 use Rattle.critical_laws.specs.declared.kind.Kind.{Kind}
 use Rattle.critical_laws.specs.declared.kind.Kind.TheVariants.{Critical, Lower, Upper}
 use Rattle.critical_laws.specs.Kinds.{criticals, part, spread, ZeroOnUppers, ZeroOnLowers}
-use Rattle.critical_complex.specs.Stages.{critical_from}
-
-abbrev pub place_of : List Kind → ℕ → ℕ
-place_of [] i = 0
-place_of (Critical ∷ ts) zero = 0
-place_of (Critical ∷ ts) (suc i) = suc (place_of ts i)
-place_of (Lower ∷ ts) i = suc (place_of ts i)
-place_of (Upper ∷ ts) i = suc (place_of ts i)
+use Rattle.critical_complex.specs.Stages.{critical_from, place_of}
 
 pub critical_long : (n : ℕ) (ts : List Kind) → length (critical_from n ts) ≡ criticals ts
 critical_long n [] = refl

@@ -1,3 +1,4 @@
 pub mod Columns
 pub mod Stages
 pub mod Signed
+pub mod Blanks

@@ -1,6 +1,6 @@
 -- What is kept of one degree: the rows of its coboundary, of so many numbers, the kinds of its cells, and the pairs of its lowers
 -- with uppers of the next degree, in the order of the field.
-use Rattle.std.specs.Prelude.{◌≡◌, ℕ, suc, ◌+◌, ◌≤◌, List, [], ◌∷◌, length, slice_index_or}
+use Rattle.std.specs.Prelude.{◌≡◌, ℕ, zero, suc, ◌+◌, ◌≤◌, List, [], ◌∷◌, length, slice_index_or}
 use Rattle.small_field.specs.Field.{Ops}
 use Rattle.critical_laws.specs.declared.kind.Kind.{Kind}
 use Rattle.critical_laws.specs.declared.kind.Kind.TheVariants.{Critical, Lower, Upper}
@@ -13,6 +13,14 @@ critical_from n [] = []
 critical_from n (Critical ∷ ts) = n ∷ critical_from (n + 1) ts
 critical_from n (Lower ∷ ts) = critical_from (n + 1) ts
 critical_from n (Upper ∷ ts) = critical_from (n + 1) ts
+
+-- the place of a critical cell, by its index
+abbrev pub place_of : List Kind → ℕ → ℕ
+place_of [] i = 0
+place_of (Critical ∷ ts) zero = 0
+place_of (Critical ∷ ts) (suc i) = suc (place_of ts i)
+place_of (Lower ∷ ts) i = suc (place_of ts i)
+place_of (Upper ∷ ts) i = suc (place_of ts i)
 
 pub record Stage : Type 0 where
   pub rows : List (List ℕ)
@@ -31,5 +39,6 @@ pub record IsSmall (s : Stage) : Type 0 where
   pub rows : length s.rows ≡ length s.kinds
 
 -- two degrees, one after the other, with the pairs of a field between them
-abbrev pub IsPaired : Ops → Stage → Stage → Type 0
-IsPaired F s next = IsMatching F (length s.kinds) (length next.kinds) s.rows s.kinds next.kinds s.pairs
+pub record IsPaired (F : Ops) (s next : Stage) : Type 0 where
+  pub matching : IsMatching F (length s.kinds) (length next.kinds) s.rows s.kinds next.kinds s.pairs
+  pub cols : s.cols ≡ length next.kinds

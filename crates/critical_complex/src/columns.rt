@@ -88,7 +88,8 @@ impl<F: Field> Columns<F> {
 impl<F: Field> Columns<F> {
     /// The coboundary of a dimension of a signed set.
     pub(crate) fn of_signed<G: Signed>(alloc: Global, graded: &G, dim: u8) -> Result<Columns<F>, AllocError>
-        requires { dim ≤ 3 }
+        requires { dim ≤ 4 }
+        ensures few { IfOk result (λ s. s.cols ≤ 4294967295) }
         ensures cols { IfOk result (λ s. s.cols ≡ count (G.space graded.now) (dim + 1)) }
         ensures rows { IfOk result (λ s. s.rows ≡ signed_rows F.ops (G.space graded.now) (G.negative graded.now) dim) }
     {

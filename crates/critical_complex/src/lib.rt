@@ -5,3 +5,4 @@ mod columns;
 mod listing;
 mod substitution;
 mod stage;
+mod coboundary;

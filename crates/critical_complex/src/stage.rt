@@ -1,16 +1,23 @@
 // What is kept of one degree.
 ghost use Rattle.std.specs.Prelude.{◌≡◌, ◌<◌, ◌≤◌, length, replicate, IfOk};
-ghost use Rattle.linear_algebra.specs.Vectors.{AreElements, IsVector};
-ghost use Rattle.critical_laws.specs.Kinds.{criticals, part, spread, ZeroOnLowers, ZeroOnUppers};
-ghost use Rattle.critical_complex.specs.Stages.{critical_from, Stage as Seen, IsSmall};
+ghost use Rattle.linear_algebra.specs.Vectors.{column, dot};
+ghost use Rattle.critical_laws.specs.Kinds.{criticals, part, spread};
+ghost use Rattle.critical_complex.specs.Stages.{critical_from, place_of, IsSmall, IsPaired};
+ghost use Rattle.vector_field.specs.Pairs.{IsFieldOf};
+ghost use Rattle.critical_laws.specs.Pairs.{settle as settled};
+ghost use Rattle.critical_complex.specs.Signed.{IsStageOf};
 
 use crate::columns::Columns;
+use crate::listing::{list_critical, list_kinds, list_pairs};
+use crate::substitution::settle;
 use critical_laws::{Kind, Match};
+use face_poset::Signed;
 use field_matrix::Row;
 use order_complex::Cochain;
 use small_field::Field;
 use std::alloc::{AllocError, Global};
 use std::marker::Model;
+use vector_field::PairList;
 
 /// The cells of one degree, numbered from 1, with their kinds and their pairs with cells of the next.
 #[derive(Drop)]
@@ -74,5 +81,59 @@ impl<F: Field> Stage<F> {
             w.set(index, x.get(critical[index as usize]));
         }
         Ok(w)
+    }
+
+    /// The place of a critical cell, by its index; both count from 0.
+    pub(crate) fn critical_place(&self, index: u32) -> u32
+        requires { index < criticals self.now.kinds }
+        ensures place { result ≡ place_of self.now.kinds index }
+        ensures within { result < length self.now.kinds }
+        ensures few { result < 4294967295 }
+    {
+        let critical: &[u32] = &self.critical;
+        critical[index as usize] - 1
+    }
+
+    /// The coboundary of a cochain at the place of a cell of the next degree.
+    pub(crate) fn coboundary_at(&self, x: &Cochain<F>, place: u32) -> F
+        requires cochain { length x.now ≡ length self.now.kinds }
+        requires place { place < self.now.cols }
+        ensures { F.number_of result ≡ dot F.ops x.now (column place self.now.rows) }
+    {
+        let _small = self.len();
+        self.columns.coboundary_at(x, place)
+    }
+
+    /// Changes a cochain at the lowers, so that its coboundary at the uppers of the next degree is t.
+    pub(crate) fn settle(&self, next: &Stage<F>, t: &Cochain<F>, x: &mut Cochain<F>)
+        requires paired { IsPaired F.ops self.now next.now }
+        requires above { length t.now ≡ length next.now.kinds }
+        requires below { length x.old ≡ length self.now.kinds }
+        ensures { x.new ≡ settled F.ops self.now.rows t.now self.now.pairs x.old }
+    {
+        settle(&self.columns, &self.pairs, t, x);
+    }
+
+    /// What is kept of a dimension of a signed set with a field of pairs.
+    pub(crate) fn of_signed<G: Signed>(
+        alloc: Global,
+        graded: &G,
+        field: &PairList,
+        dim: u8,
+    ) -> Result<Stage<F>, AllocError>
+        requires dim { dim ≤ 4 }
+        requires field { IsFieldOf (G.space graded.now) field.now }
+        ensures { IfOk result (IsStageOf F.ops (G.space graded.now) (G.negative graded.now) field.now.pairs dim) }
+    {
+        let columns = Columns::of_signed(alloc, graded, dim)?;
+        let kinds = list_kinds(alloc, field, dim, graded.cells(dim))?;
+        let pairs = list_pairs(alloc, field, dim)?;
+        let critical = list_critical(alloc, &kinds)?;
+        Ok(Stage {
+            columns,
+            kinds,
+            pairs,
+            critical,
+        })
     }
 }

@@ -1,4 +1,4 @@
-use Rattle.std.proofs.Common.{◌≡◌, ◌+◌, ℕ, map, ◌∙◌, arith}
+use Rattle.std.proofs.Common.{◌≡◌, ◌+◌, ℕ, map, length, ◌∙◌, arith}
 use Rattle.face_poset.specs.Poset.{count, facets_of}
 use Rattle.critical_complex.specs.Signed.{sign_element}
 use Rattle.critical_complex.proofs.SignedLemmas.{map_more, columns_final, rows_final, cols_final}
@@ -27,3 +27,10 @@ pub returns-clause-rows : goal.returns-clause-rows
 returns-clause-rows g c =
     rows_final g.F.Field.ops g.met.F.Field.laws (g.G.Graded.space c.args.graded.now) (g.G.Signed.negative c.args.graded.now) c.args.dim c.cells-below.result c.loop-index.index c.loop-index.cells c.loop-index.values c.cells-below.ensures.cells
     (let e : c.cells-index-end.result ≡ count (g.G.Graded.space c.args.graded.now) (c.args.dim + 1) = c.cells-index-end.ensures.cells in omega arith) c.loop-index.invariant.cells c.loop-index.invariant.values
+
+pub returns-clause-few : goal.returns-clause-few
+returns-clause-few g c =
+    let e : length c.loop-index.cells ≡ count (g.G.Graded.space c.args.graded.now) (c.args.dim + 1) =
+    cols_final (g.G.Graded.space c.args.graded.now) c.args.dim c.loop-index.index c.loop-index.cells
+    (let e : c.cells-index-end.result ≡ count (g.G.Graded.space c.args.graded.now) (c.args.dim + 1) = c.cells-index-end.ensures.cells in omega arith) c.loop-index.invariant.cells in
+    omega (arith, c.cells-index-end.ensures.cells, c.cells-index-end.type_inv)
