@@ -2,3 +2,4 @@ pub mod Columns
 pub mod Stages
 pub mod Signed
 pub mod Blanks
+pub mod Splits

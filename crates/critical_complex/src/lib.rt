@@ -3,6 +3,9 @@
 
 mod columns;
 mod listing;
+mod reduced;
 mod substitution;
 mod stage;
 mod coboundary;
+
+pub use reduced::Reduced;

@@ -2,6 +2,7 @@
 ghost use Rattle.std.specs.Prelude.{◌≡◌, ◌<◌, ◌≤◌, length, replicate, IfOk};
 ghost use Rattle.linear_algebra.specs.Vectors.{column, dot};
 ghost use Rattle.critical_laws.specs.Kinds.{criticals, part, spread};
+ghost use Rattle.critical_laws.specs.Solutions.{IsExtension};
 ghost use Rattle.critical_complex.specs.Stages.{critical_from, place_of, IsSmall, IsPaired};
 ghost use Rattle.vector_field.specs.Pairs.{IsFieldOf};
 ghost use Rattle.critical_laws.specs.Pairs.{settle as settled};
@@ -112,6 +113,26 @@ impl<F: Field> Stage<F> {
         ensures { x.new ≡ settled F.ops self.now.rows t.now self.now.pairs x.old }
     {
         settle(&self.columns, &self.pairs, t, x);
+    }
+
+    /// The critical cells, increasing.
+    pub(crate) fn critical(&self) -> &[u32]
+        ensures { result.now ≡ critical_from 1 self.now.kinds }
+    {
+        &self.critical
+    }
+
+    /// The extension of values at the critical cells.
+    pub(crate) fn extension(&self, alloc: Global, next: &Stage<F>, w: &Row<F>) -> Result<Cochain<F>, AllocError>
+        requires paired { IsPaired F.ops self.now next.now }
+        requires values { length w.now ≡ criticals self.now.kinds }
+        ensures { IfOk result (IsExtension F.ops (length self.now.kinds) (length next.now.kinds) self.now.rows self.now.kinds next.now.kinds w.now) }
+    {
+        let _elements = w.len();
+        let zeros = Cochain::zero(alloc, next.len())?;
+        let mut x = self.spread(alloc, w)?;
+        self.settle(next, &zeros, &mut x);
+        Ok(x)
     }
 
     /// What is kept of a dimension of a signed set with a field of pairs.

@@ -27,4 +27,4 @@ loop-row-preserved g c =
 pub returns-clause-rows : goal.returns-clause-rows
 returns-clause-rows g c =
     rows_final g.F.Field.ops g.met.F.Field.laws c.args.stage.now c.args.next.now c.requires c.loop-row.matrix.rows c.loop-row.row
-    (subst (λ (n : ℕ). IsMatrix g.F.Field.ops n c.loop-row.matrix.rows) c.loop-row.invariant.cols c.rows-_rows.ensures.matrix) c.loop-row.invariant.long (subst (λ (n : ℕ). n ≤ c.loop-row.row) c.criticals-rows.ensures c.loop-row-test.false) c.loop-row.invariant.filled
+    (subst (λ (n : ℕ). IsMatrix g.F.Field.ops n c.loop-row.matrix.rows) c.loop-row.invariant.cols c.rows-rows.ensures.matrix) c.loop-row.invariant.long (subst (λ (n : ℕ). n ≤ c.loop-row.row) c.criticals-rows.ensures c.loop-row-test.false) c.loop-row.invariant.filled

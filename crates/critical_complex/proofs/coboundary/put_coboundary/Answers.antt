@@ -1,4 +1,4 @@
-use Rattle.std.proofs.Common.{◌≡◌, ◌<◌, ◌≤◌, ℕ, List, [], length, get_or, refl, ap, sym, ◌∙◌, subst, arith}
+use Rattle.std.proofs.Common.{◌≡◌, ◌+◌, ◌<◌, ◌≤◌, ℕ, List, [], length, get_or, refl, ap, sym, ◌∙◌, subst, arith}
 use Rattle.linear_algebra.specs.Vectors.{column, combination, dot}
 use Rattle.critical_laws.specs.Kinds.{criticals, part}
 use Rattle.critical_complex.specs.Stages.{place_of}

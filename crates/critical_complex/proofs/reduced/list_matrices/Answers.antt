@@ -1,0 +1,11 @@
+use Rattle.std.proofs.Common.{rules, ◌≡◌, ◌+◌, ◌<◌, ◌≤◌, length, IfOk, ℕ, ◌-◌, ◌*◌, ◌/◌, ◌%◌, Bool, true, false, nat_eq, nat_lt, List, [], ◌∷◌, ◌++◌, slice_index_or, slice_set, bit_and, bit_or, Fits, w8, w32, w64, Bor, MutBor}
+use Rattle.vector_field.specs.Pairs.{IsFieldOf}
+use Rattle.critical_laws.specs.Kinds.{criticals}
+use Rattle.critical_laws.specs.Solutions.{IsExtension, IsReducedBy}
+use Rattle.critical_complex.specs.Stages.{critical_from, IsPaired}
+use Rattle.critical_complex.specs.Splits.{stage_at, cells_at, kinds_at, rows_at, AreMatrices, IsReductionOf, IsSplitting}
+use Rattle.critical_complex.proofs.reduced.list_matrices.Goals as goal
+
+-- src/reduced.rt:65:22
+pub coboundary_matrix-requires : goal.coboundary_matrix-requires
+coboundary_matrix-requires g c = ?
