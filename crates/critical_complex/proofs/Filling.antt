@@ -10,10 +10,10 @@ use Rattle.linear_algebra.proofs.Decide.{entry_combination}
 use Rattle.linear_algebra.proofs.Span.{combination-vector, zeros-elements}
 use Rattle.critical_laws.specs.declared.kind.Kind.{Kind}
 use Rattle.critical_laws.specs.declared.matching.Match.{Match}
-use Rattle.critical_laws.specs.Kinds.{criticals, part, ZeroOnUppers}
+use Rattle.critical_laws.specs.Kinds.{criticals, part, spread, ZeroOnUppers}
 use Rattle.critical_laws.specs.Pairs.{IsMatching, settle}
 use Rattle.critical_laws.specs.Solutions.{IsExtension, IsReducedBy}
-use Rattle.critical_laws.proofs.Parts.{part-long, part-zeros, none-zeros}
+use Rattle.critical_laws.proofs.Parts.{part-long, part-zeros, none-zeros, spread_long, spread_elements, spread_own, spread_none}
 use Rattle.critical_laws.proofs.Fields.{extended, split_of_field}
 use Rattle.critical_laws.proofs.Solved.{extension_is_one}
 use Rattle.critical_complex.specs.Stages.{Stage, IsPaired, place_of}
@@ -148,3 +148,13 @@ module _ (F : Ops) (L : IsField F) where
           ∙ ap (λ (y : List ℕ). part next.kinds (combination F (length next.kinds) y s.rows))
           (extension_is_one F L (length s.kinds) (length next.kinds) s.rows s.kinds next.kinds (split_of_field F L (length s.kinds) (length next.kinds) s.rows s.kinds next.kinds s.pairs P.matching) (mark (criticals s.kinds) i) k.0 x k.1 e);
     }
+
+-- what is settled from values spread over the critical cells
+pub extension_is : (F : Ops) (L : IsField F) (s next : Stage) → IsPaired F s next → (w x zeros now : List ℕ) (n : ℕ) → length w ≡ criticals s.kinds → AreElements F w → x ≡ spread s.kinds w → zeros ≡ replicate n 0 → n ≡ length next.kinds
+    → now ≡ settle F s.rows zeros s.pairs x → IsExtension F (length s.kinds) (length next.kinds) s.rows s.kinds next.kinds w now
+extension_is F L s next P w x zeros now n l el e z k h =
+    let y : List ℕ = spread s.kinds w in
+    subst (IsExtension F (length s.kinds) (length next.kinds) s.rows s.kinds next.kinds w)
+    (sym (h ∙ (ap (λ (t : List ℕ). settle F s.rows t s.pairs x) (z ∙ ap (λ (c : ℕ). replicate c 0) k) ∙ ap (settle F s.rows (replicate (length next.kinds) 0) s.pairs) e)))
+    (extended F L (length s.kinds) (length next.kinds) s.rows s.kinds next.kinds s.pairs P.matching w y
+    (record { long = spread_long s.kinds w; elements = spread_elements F L s.kinds w el }) (spread_own s.kinds w l) (spread_none s.kinds w))

@@ -1,7 +1,7 @@
 -- A valid field of a signed set is a matching between each two dimensions.
-use Rattle.std.proofs.Common.{◌≡◌, ◌≢◌, ◌⊎◌, inl, inr, ℕ, zero, suc, ◌+◌, ◌-◌, ◌≤◌, ◌<◌, List, [], ◌∷◌, Bool, true, false, cond, ◌&&◌, not, nat_lt, nat_le, eqb, filter, length, map, get_or, refl, ap, sym, ◌∙◌, arith, subst, Contains}
+use Rattle.std.proofs.Common.{◌≡◌, ◌≢◌, ◌⊎◌, inl, inr, ℕ, zero, suc, ◌+◌, ◌-◌, ◌≤◌, ◌<◌, List, [], ◌∷◌, ◌++◌, Bool, true, false, cond, ◌&&◌, not, nat_lt, nat_le, eqb, filter, length, map, get_or, refl, ap, sym, ◌∙◌, arith, subst, Contains}
 use Rattle.std.specs.List.{AllByRecursion}
-use Rattle.std.proofs.lemmas.Bool.{eqb-true, eq-eqb, and_parts, not_from_false, leb-true, ltb-true}
+use Rattle.std.proofs.lemmas.Bool.{eqb-true, eq-eqb, and_parts, not_from_false, leb-true, ltb-true, cases_eq}
 use Rattle.std.proofs.lemmas.List.FromFn.{length-map-range_with_len, get_or-map-range_with_len}
 use Rattle.small_field.specs.Field.{Ops, IsField}
 use Rattle.small_field.proofs.Laws.{neg_neg, neg_zero, zero_below}
@@ -18,7 +18,10 @@ use Rattle.critical_laws.specs.declared.kind.Kind.{Kind}
 use Rattle.critical_laws.specs.declared.kind.Kind.TheVariants.{Critical, Lower, Upper}
 use Rattle.critical_laws.specs.declared.matching.Match.{Match}
 use Rattle.critical_laws.specs.Pairs.{Triangular, HasLower, HasUpper, KindsOf, IsMatching, kind_at}
-use Rattle.critical_complex.specs.Stages.{Stage, IsPaired}
+use Rattle.critical_complex.specs.Stages.{Stage, IsPaired, empty_stage}
+use Rattle.critical_complex.specs.Splits.{IsReductionOf, IsSplitting, stage_at}
+use Rattle.std.proofs.lemmas.List.{length-append, get_or_append_left}
+use Rattle.std.proofs.Math.Seq.{get_or-append_seam}
 use Rattle.critical_complex.specs.Signed.{sign_element, signed_entry, signed_rows, match_of, matches_of, IsKind, AreKinds, IsStageOf}
 
 -- ---- pairs of one dimension
@@ -229,3 +232,28 @@ module _ (F : Ops) (L : IsField F) (space : List (List (List ℕ))) (negative : 
           (matching s.kinds next.kinds a.kinds b.kinds));
       cols = a.cols ∙ sym b.kinds.long;
     }
+
+-- the degrees of a signed set with a valid field
+pub splitting : (F : Ops) (L : IsField F) (space : List (List (List ℕ))) (negative : ℕ → ℕ → ℕ → Bool) (pairs : List Pair) (stages now : List Stage) → IsValid space pairs → IsReductionOf F space negative pairs stages → now ≡ stages → IsSplitting F now
+splitting F L space negative pairs stages now V r e =
+    subst (IsSplitting F) (sym e)
+    (record {
+      long = r.long;
+      paired = λ degree lt.
+          paired F L space negative degree pairs V (stage_at stages degree) (stage_at stages (suc degree)) (r.each degree (omega arith))
+          (subst (λ (k : ℕ). IsStageOf F space negative pairs k (stage_at stages (suc degree))) (let g : suc degree ≡ degree + 1 = omega arith in g) (r.each (suc degree) (omega arith)));
+    })
+
+pub stages_more : (F : Ops) (space : List (List (List ℕ))) (negative : ℕ → ℕ → ℕ → Bool) (pairs : List Pair) (stages now : List Stage) (s : Stage) (i : ℕ) → length stages ≡ i
+    → ((degree : ℕ) → degree < i → IsStageOf F space negative pairs degree (stage_at stages degree)) → IsStageOf F space negative pairs i s → now ≡ stages ++ s ∷ []
+    → (length now ≡ i + 1) × ((degree : ℕ) → degree < i + 1 → IsStageOf F space negative pairs degree (stage_at now degree))
+stages_more F space negative pairs stages now s i l before last e =
+    (ap (λ (xs : List Stage). length xs) e ∙ (length-append stages (s ∷ []) ∙ ap (λ (n : ℕ). n + 1) l),
+     (λ j lj.
+     subst (λ (xs : List Stage). IsStageOf F space negative pairs j (stage_at xs j)) (sym e)
+     (elim (cases_eq j i) [
+       | inl b ↦
+         subst (λ (n : ℕ). IsStageOf F space negative pairs n (stage_at (stages ++ s ∷ []) n)) (sym b)
+         (subst (IsStageOf F space negative pairs i) (sym (ap (λ (n : ℕ). get_or (stages ++ s ∷ []) n empty_stage) (sym l) ∙ get_or-append_seam stages s [] empty_stage)) last)
+       | inr b ↦ subst (IsStageOf F space negative pairs j) (sym (get_or_append_left stages (s ∷ []) empty_stage j (omega arith))) (before j (omega arith))
+     ])))

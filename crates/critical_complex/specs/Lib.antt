@@ -3,3 +3,4 @@ pub mod Stages
 pub mod Signed
 pub mod Blanks
 pub mod Splits
+pub mod Units

@@ -37,6 +37,7 @@ pub record IsSmall (s : Stage) : Type 0 where
   pub cells : length s.kinds ≤ 4294967295
   pub above : s.cols ≤ 4294967295
   pub rows : length s.rows ≡ length s.kinds
+  pub few : length s.pairs ≤ 4294967295
 
 -- two degrees, one after the other, with the pairs of a field between them
 pub record IsPaired (F : Ops) (s next : Stage) : Type 0 where

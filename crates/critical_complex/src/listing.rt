@@ -75,7 +75,8 @@ pub(crate) fn list_kinds(
 
 /// The pairs of a dimension, by places.
 pub(crate) fn list_pairs(alloc: Global, field: &PairList, dim: u8) -> Result<Vec<Match>, AllocError>
-    ensures { IfOk result (λ pairs. pairs.items ≡ matches_of field.now.pairs dim) }
+    ensures pairs { IfOk result (λ pairs. pairs.items ≡ matches_of field.now.pairs dim) }
+    ensures few { IfOk result (λ pairs. length pairs.items ≤ 4294967295) }
 {
     let mut pairs = Vec::new(alloc);
     for index in 0..field.len() {

@@ -1,8 +1,9 @@
 // What is kept of one degree.
-ghost use Rattle.std.specs.Prelude.{◌≡◌, ◌<◌, ◌≤◌, length, replicate, IfOk};
+ghost use Rattle.std.specs.Prelude.{◌≡◌, ◌<◌, ◌≤◌, length, slice_index_or, IfOk};
 ghost use Rattle.linear_algebra.specs.Vectors.{column, dot};
 ghost use Rattle.critical_laws.specs.Kinds.{criticals, part, spread};
-ghost use Rattle.critical_laws.specs.Solutions.{IsExtension};
+ghost use Rattle.critical_laws.specs.Solutions.{IsCleared, IsExtension, without};
+ghost use Rattle.critical_complex.specs.Units.{IsUnitOf, no_match};
 ghost use Rattle.critical_complex.specs.Stages.{critical_from, place_of, IsSmall, IsPaired};
 ghost use Rattle.vector_field.specs.Pairs.{IsFieldOf};
 ghost use Rattle.critical_laws.specs.Pairs.{settle as settled};
@@ -11,11 +12,13 @@ ghost use Rattle.critical_complex.specs.Signed.{IsStageOf};
 use crate::columns::Columns;
 use crate::listing::{list_critical, list_kinds, list_pairs};
 use crate::substitution::settle;
+use crate::cleared::Cleared;
+use crate::unit::Unit;
 use critical_laws::{Kind, Match};
 use face_poset::Signed;
 use field_matrix::Row;
 use order_complex::Cochain;
-use small_field::Field;
+use small_field::{Entry, Field, Sparse};
 use std::alloc::{AllocError, Global};
 use std::marker::Model;
 use vector_field::PairList;
@@ -133,6 +136,63 @@ impl<F: Field> Stage<F> {
         let mut x = self.spread(alloc, w)?;
         self.settle(next, &zeros, &mut x);
         Ok(x)
+    }
+
+    /// Clears a cochain of the next degree: a cochain on the lowers here whose coboundary is the cochain on the
+    /// uppers there, and what is left at the critical cells.
+    pub(crate) fn clearing(&self, alloc: Global, next: &Stage<F>, x: &Cochain<F>) -> Result<Cleared<F>, AllocError>
+        requires paired { IsPaired F.ops self.now next.now }
+        requires cochain { length x.now ≡ length next.now.kinds }
+        ensures { IfOk result (λ r. IsCleared F.ops (length self.now.kinds) (length next.now.kinds) self.now.rows self.now.kinds next.now.kinds x.now r.w r.y) }
+    {
+        let mut y = Cochain::zero(alloc, self.len())?;
+        self.settle(next, x, &mut y);
+        let w = self.rest(alloc, next, x, &y)?;
+        Ok(Cleared { w, y })
+    }
+
+    /// What is left of a cochain of the next degree less a coboundary, at the critical cells.
+    fn rest(&self, alloc: Global, next: &Stage<F>, x: &Cochain<F>, y: &Cochain<F>) -> Result<Row<F>, AllocError>
+        requires paired { IsPaired F.ops self.now next.now }
+        requires cochain { length x.now ≡ length next.now.kinds }
+        requires below { length y.now ≡ length self.now.kinds }
+        ensures { IfOk result (λ w. w ≡ part next.now.kinds (without F.ops (length next.now.kinds) self.now.rows x.now y.now)) }
+    {
+        let count = next.criticals();
+        let mut w = Row::zero(alloc, count)?;
+        for index in 0..count {
+            let place = next.critical_place(index);
+            let value = x.get(place + 1).add(self.coboundary_at(y, place).neg());
+            w.set(index, value);
+        }
+        Ok(w)
+    }
+
+    /// How many pairs there are.
+    pub(crate) fn units(&self) -> u32
+        ensures { result ≡ length self.now.pairs }
+    {
+        self.pairs.len() as u32
+    }
+
+    /// The lower of a pair with the value 1, and its upper with the value 1.
+    pub(crate) fn unit(&self, alloc: Global, index: u32) -> Result<Unit, AllocError>
+        requires { index < length self.now.pairs }
+        ensures { IfOk result (IsUnitOf (slice_index_or self.now.pairs index no_match)) }
+    {
+        let _few = self.len();
+        let pair = self.pairs[index as usize];
+        let mut left = Sparse::new(alloc);
+        left.push(Entry {
+            position: pair.lower.saturating_add(1),
+            value: 1,
+        })?;
+        let mut right = Sparse::new(alloc);
+        right.push(Entry {
+            position: pair.upper.saturating_add(1),
+            value: 1,
+        })?;
+        Ok(Unit { left, right })
     }
 
     /// What is kept of a dimension of a signed set with a field of pairs.

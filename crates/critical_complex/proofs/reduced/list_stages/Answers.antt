@@ -1,11 +1,8 @@
-use Rattle.std.proofs.Common.{rules, ◌≡◌, ◌+◌, ◌<◌, ◌≤◌, length, IfOk, ℕ, ◌-◌, ◌*◌, ◌/◌, ◌%◌, Bool, true, false, nat_eq, nat_lt, List, [], ◌∷◌, ◌++◌, slice_index_or, slice_set, bit_and, bit_or, Fits, w8, w32, w64, Bor, MutBor}
-use Rattle.vector_field.specs.Pairs.{IsFieldOf}
-use Rattle.critical_laws.specs.Kinds.{criticals}
-use Rattle.critical_laws.specs.Solutions.{IsExtension, IsReducedBy}
-use Rattle.critical_complex.specs.Stages.{critical_from, IsPaired}
-use Rattle.critical_complex.specs.Splits.{stage_at, cells_at, kinds_at, rows_at, AreMatrices, IsReductionOf, IsSplitting}
+use Rattle.critical_complex.proofs.Matching.{stages_more}
 use Rattle.critical_complex.proofs.reduced.list_stages.Goals as goal
 
--- src/reduced.rt:49:5
 pub loop-dim-preserved : goal.loop-dim-preserved
-loop-dim-preserved g c = ?
+loop-dim-preserved g c =
+    let h = stages_more g.F.Field.ops (g.G.Graded.space c.args.graded.now) (g.G.Signed.negative c.args.graded.now) c.args.field.now.pairs c.loop-dim.stages.items c.push.new.self.items c.in_ok-of_signed.field-0 c.loop-dim.dim
+        c.loop-dim.invariant.long c.loop-dim.invariant.each c.in_ok-of_signed.ensures c.in_ok-push.ensures.items in
+    record { long = h.0; each = h.1 }

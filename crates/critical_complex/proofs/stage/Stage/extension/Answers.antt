@@ -1,17 +1,11 @@
-use Rattle.std.proofs.Common.{rules, ◌≡◌, ◌<◌, ◌≤◌, length, replicate, IfOk, ℕ, ◌+◌, ◌-◌, ◌*◌, ◌/◌, ◌%◌, Bool, true, false, nat_eq, nat_lt, List, [], ◌∷◌, ◌++◌, slice_index_or, slice_set, bit_and, bit_or, Fits, w8, w32, w64, Bor, MutBor}
-use Rattle.linear_algebra.specs.Vectors.{column, dot}
-use Rattle.critical_laws.specs.Kinds.{criticals, part, spread}
-use Rattle.critical_laws.specs.Solutions.{IsExtension}
-use Rattle.critical_complex.specs.Stages.{critical_from, place_of, IsSmall, IsPaired}
-use Rattle.vector_field.specs.Pairs.{IsFieldOf}
-use Rattle.critical_laws.specs.Pairs.{settle as settled}
-use Rattle.critical_complex.specs.Signed.{IsStageOf}
+use Rattle.std.proofs.Common.{ℕ, List, length, sym, ap, ◌∙◌}
+use Rattle.critical_laws.proofs.Parts.{spread_long}
+use Rattle.critical_complex.proofs.Filling.{extension_is}
 use Rattle.critical_complex.proofs.stage.Stage.extension.Goals as goal
 
--- src/stage.rt:134:9
 pub settle-requires-clause-below : goal.settle-requires-clause-below
-settle-requires-clause-below g c = ?
+settle-requires-clause-below g c = ap (λ (x : List ℕ). length x) c.in_ok-x.ensures ∙ spread_long c.args.self.now.kinds c.args.w.now
 
--- src/stage.rt:126:5
 pub returns : goal.returns
-returns g c = ?
+returns g c =
+    extension_is g.F.Field.ops g.met.F.Field.laws c.args.self.now c.args.next.now c.requires.paired c.args.w.now c.in_ok-x.x c.in_ok-zeros.zeros c.settle.new.x c.len.result c.requires.values c.len-elements.ensures.elements c.in_ok-x.ensures c.in_ok-zeros.ensures c.len.ensures.len c.settle.ensures

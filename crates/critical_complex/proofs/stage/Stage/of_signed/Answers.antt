@@ -9,6 +9,7 @@ invariant_of-result g c =
      record {
        cells = let l : length c.in_ok-kinds.kinds.items ≡ c.cells.result = c.in_ok-kinds.ensures.long in omega (arith, c.cells.type_inv);
        above = c.in_ok-columns.ensures.few;
+       few = c.in_ok-pairs.ensures.few;
        rows = ap (λ (rows : List (List ℕ)). length rows) c.in_ok-columns.ensures.rows
            ∙ (rows_long g.F.Field.ops g.met.F.Field.laws (g.G.Graded.space c.args.graded.now) (g.G.Signed.negative c.args.graded.now) c.args.dim ∙ (sym c.cells.ensures.cells ∙ sym c.in_ok-kinds.ensures.long));
      })
