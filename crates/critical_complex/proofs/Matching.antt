@@ -17,6 +17,7 @@ use Rattle.vector_field.proofs.Valid.{Goes, IsLined, lined-from, unused-In}
 use Rattle.critical_laws.specs.declared.kind.Kind.{Kind}
 use Rattle.critical_laws.specs.declared.kind.Kind.TheVariants.{Critical, Lower, Upper}
 use Rattle.critical_laws.specs.declared.matching.Match.{Match}
+use Rattle.critical_laws.specs.Kinds.{HasNoUpper}
 use Rattle.critical_laws.specs.Pairs.{Triangular, HasLower, HasUpper, KindsOf, IsMatching, kind_at}
 use Rattle.critical_complex.specs.Stages.{Stage, IsPaired, empty_stage}
 use Rattle.critical_complex.specs.Splits.{IsReductionOf, IsSplitting, stage_at}
@@ -233,6 +234,20 @@ module _ (F : Ops) (L : IsField F) (space : List (List (List ℕ))) (negative : 
       cols = a.cols ∙ sym b.kinds.long;
     }
 
+no_upper : (ts : List Kind) → ((i : ℕ) → i < length ts → kind_at ts i ≡ Upper → ⊥) → HasNoUpper ts
+no_upper [] h = tt
+no_upper (Critical ∷ ts) h = no_upper ts (λ i lt. h (suc i) (omega arith))
+no_upper (Lower ∷ ts) h = no_upper ts (λ i lt. h (suc i) (omega arith))
+no_upper (Upper ∷ ts) h = h 0 (omega arith) refl
+
+first_kinds : (pairs : List Pair) (n : ℕ) (ts : List Kind) → AreKinds pairs 0 n ts → HasNoUpper ts
+first_kinds pairs n ts a =
+    no_upper ts
+    (λ i li e.
+    let k : IsKind pairs 0 (i + 1) Upper = subst (IsKind pairs 0 (i + 1)) e (a.each i (subst (λ (m : ℕ). i < m) a.long li)) in
+    let z : 0 ≡ k.0 + 1 = k.2 in
+    omega arith)
+
 -- the degrees of a signed set with a valid field
 pub splitting : (F : Ops) (L : IsField F) (space : List (List (List ℕ))) (negative : ℕ → ℕ → ℕ → Bool) (pairs : List Pair) (stages now : List Stage) → IsValid space pairs → IsReductionOf F space negative pairs stages → now ≡ stages → IsSplitting F now
 splitting F L space negative pairs stages now V r e =
@@ -242,6 +257,7 @@ splitting F L space negative pairs stages now V r e =
       paired = λ degree lt.
           paired F L space negative degree pairs V (stage_at stages degree) (stage_at stages (suc degree)) (r.each degree (omega arith))
           (subst (λ (k : ℕ). IsStageOf F space negative pairs k (stage_at stages (suc degree))) (let g : suc degree ≡ degree + 1 = omega arith in g) (r.each (suc degree) (omega arith)));
+      bottom = first_kinds pairs (count space 0) (stage_at stages 0).kinds (r.each 0 (omega arith)).kinds;
     })
 
 pub stages_more : (F : Ops) (space : List (List (List ℕ))) (negative : ℕ → ℕ → ℕ → Bool) (pairs : List Pair) (stages now : List Stage) (s : Stage) (i : ℕ) → length stages ≡ i

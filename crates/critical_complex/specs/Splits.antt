@@ -1,10 +1,10 @@
 -- A signed set with a field of pairs, degree by degree; the last of the five degrees has no cells.
-use Rattle.std.specs.Prelude.{◌≡◌, ℕ, suc, ◌<◌, List, [], Bool, length, slice_index_or}
+use Rattle.std.specs.Prelude.{◌≡◌, ℕ, zero, suc, ◌<◌, List, [], Bool, length, slice_index_or}
 use Rattle.small_field.specs.Field.{Ops}
 use Rattle.field_matrix.specs.Rows.{Rows}
 use Rattle.face_poset.specs.declared.cells.Pair.{Pair}
 use Rattle.critical_laws.specs.declared.kind.Kind.{Kind}
-use Rattle.critical_laws.specs.Kinds.{criticals}
+use Rattle.critical_laws.specs.Kinds.{criticals, HasNoUpper}
 use Rattle.critical_laws.specs.Solutions.{IsReducedBy}
 use Rattle.critical_complex.specs.Stages.{Stage, empty_stage, IsPaired}
 use Rattle.critical_complex.specs.Signed.{IsStageOf}
@@ -32,6 +32,12 @@ pub record IsReductionOf (F : Ops) (space : List (List (List ℕ))) (negative : 
 pub record IsSplitting (F : Ops) (stages : List Stage) : Type 0 where
   pub long : length stages ≡ 5
   pub paired : (degree : ℕ) → degree < 4 → IsPaired F (stage_at stages degree) (stage_at stages (suc degree))
+  pub bottom : HasNoUpper (kinds_at stages 0)
+
+-- the degree before, which before the first one has no cells
+abbrev pub stage_before : List Stage → (degree : ℕ) → Stage
+stage_before stages zero = empty_stage
+stage_before stages (suc degree) = stage_at stages degree
 
 -- the coboundaries of extensions
 pub record IsMatrixOf (F : Ops) (s next : Stage) (m : Rows) : Type 0 where

@@ -1,13 +1,16 @@
 // The reduction of a signed set to the critical cells of a field of pairs.
-ghost use Rattle.std.specs.Prelude.{◌≡◌, ◌+◌, ◌<◌, ◌≤◌, length, IfOk};
+ghost use Rattle.std.specs.Prelude.{◌≡◌, ◌+◌, ◌<◌, ◌≤◌, length, slice_index_or, IfOk};
 ghost use Rattle.vector_field.specs.Pairs.{IsFieldOf};
 ghost use Rattle.critical_laws.specs.Kinds.{criticals};
-ghost use Rattle.critical_laws.specs.Solutions.{IsExtension, IsReducedBy};
+ghost use Rattle.critical_laws.specs.Solutions.{IsCleared, IsExtension, IsReducedBy};
 ghost use Rattle.critical_complex.specs.Stages.{critical_from, IsPaired};
-ghost use Rattle.critical_complex.specs.Splits.{stage_at, cells_at, kinds_at, rows_at, AreMatrices, IsReductionOf, IsSplitting};
+ghost use Rattle.critical_complex.specs.Units.{IsUnitOf, no_match};
+ghost use Rattle.critical_complex.specs.Splits.{stage_at, stage_before, cells_at, kinds_at, rows_at, AreMatrices, IsReductionOf, IsSplitting};
 
+use crate::cleared::Cleared;
 use crate::coboundary::coboundary_matrix;
 use crate::stage::Stage;
+use crate::unit::Unit;
 use face_poset::Signed;
 use field_matrix::{Matrix, Row};
 use order_complex::Cochain;
@@ -114,5 +117,38 @@ impl<F: Field> Reduced<F> {
         let stages: &[Stage<F>] = &self.stages;
         let stage = &stages[dim as usize];
         stage.extension(alloc, &stages[dim as usize + 1], w)
+    }
+
+    /// Clears a cochain: the one cochain of one degree less, on its lowers, whose coboundary is the cochain on
+    /// uppers, and what remains on the critical cells when the coboundary is taken away.
+    pub fn clear(&self, alloc: Global, dim: u8, x: &Cochain<F>) -> Result<Cleared<F>, AllocError>
+        requires degree { dim ≤ 3 }
+        requires cochain { length x.now ≡ cells_at self.now dim }
+        ensures { IfOk result (λ r. IsCleared F.ops (length (stage_before self.now dim).kinds) (cells_at self.now dim) (stage_before self.now dim).rows (stage_before self.now dim).kinds (kinds_at self.now dim) x.now r.w r.y) }
+    {
+        let stages: &[Stage<F>] = &self.stages;
+        if dim == 0 {
+            return stages[0].clearing_first(alloc, x);
+        }
+        stages[dim as usize - 1].clearing(alloc, &stages[dim as usize], x)
+    }
+
+    /// How many uppers of one degree more there are, each with a lower of the degree.
+    pub fn units(&self, dim: u8) -> u32
+        requires { dim ≤ 3 }
+        ensures { result ≡ length (stage_at self.now dim).pairs }
+    {
+        self.stages[dim as usize].units()
+    }
+
+    /// A unit: the lower of a pair with the value 1, and its upper with the value 1. The coboundary of its left
+    /// side is not zero on its own right side, and zero on the right side of each smaller index.
+    pub fn unit(&self, alloc: Global, dim: u8, index: u32) -> Result<Unit, AllocError>
+        requires degree { dim ≤ 3 }
+        requires index { index < length (stage_at self.now dim).pairs }
+        ensures { IfOk result (IsUnitOf (slice_index_or (stage_at self.now dim).pairs index no_match)) }
+    {
+        let stages: &[Stage<F>] = &self.stages;
+        stages[dim as usize].unit(alloc, &stages[dim as usize + 1], index)
     }
 }

@@ -1,7 +1,7 @@
 // What is kept of one degree.
-ghost use Rattle.std.specs.Prelude.{◌≡◌, ◌<◌, ◌≤◌, length, slice_index_or, IfOk};
+ghost use Rattle.std.specs.Prelude.{◌≡◌, ◌<◌, ◌≤◌, [], length, slice_index_or, IfOk};
 ghost use Rattle.linear_algebra.specs.Vectors.{column, dot};
-ghost use Rattle.critical_laws.specs.Kinds.{criticals, part, spread};
+ghost use Rattle.critical_laws.specs.Kinds.{criticals, part, spread, HasNoUpper};
 ghost use Rattle.critical_laws.specs.Solutions.{IsCleared, IsExtension, without};
 ghost use Rattle.critical_complex.specs.Units.{IsUnitOf, no_match};
 ghost use Rattle.critical_complex.specs.Stages.{critical_from, place_of, IsSmall, IsPaired};
@@ -145,9 +145,22 @@ impl<F: Field> Stage<F> {
         requires cochain { length x.now ≡ length next.now.kinds }
         ensures { IfOk result (λ r. IsCleared F.ops (length self.now.kinds) (length next.now.kinds) self.now.rows self.now.kinds next.now.kinds x.now r.w r.y) }
     {
+        let _elements = x.len();
         let mut y = Cochain::zero(alloc, self.len())?;
         self.settle(next, x, &mut y);
         let w = self.rest(alloc, next, x, &y)?;
+        Ok(Cleared { w, y })
+    }
+
+    /// Clears a cochain of this degree, the first, in which there is no upper: nothing is taken away.
+    pub(crate) fn clearing_first(&self, alloc: Global, x: &Cochain<F>) -> Result<Cleared<F>, AllocError>
+        requires first { HasNoUpper self.now.kinds }
+        requires cochain { length x.now ≡ length self.now.kinds }
+        ensures { IfOk result (λ r. IsCleared F.ops 0 (length self.now.kinds) [] [] self.now.kinds x.now r.w r.y) }
+    {
+        let _elements = x.len();
+        let w = self.part(alloc, x)?;
+        let y = Cochain::zero(alloc, 0)?;
         Ok(Cleared { w, y })
     }
 
@@ -176,20 +189,23 @@ impl<F: Field> Stage<F> {
     }
 
     /// The lower of a pair with the value 1, and its upper with the value 1.
-    pub(crate) fn unit(&self, alloc: Global, index: u32) -> Result<Unit, AllocError>
-        requires { index < length self.now.pairs }
+    pub(crate) fn unit(&self, alloc: Global, next: &Stage<F>, index: u32) -> Result<Unit, AllocError>
+        requires paired { IsPaired F.ops self.now next.now }
+        requires index { index < length self.now.pairs }
         ensures { IfOk result (IsUnitOf (slice_index_or self.now.pairs index no_match)) }
     {
         let _few = self.len();
-        let pair = self.pairs[index as usize];
+        let _above = next.len();
+        let pairs: &[Match] = &self.pairs;
+        let pair = pairs[index as usize];
         let mut left = Sparse::new(alloc);
         left.push(Entry {
-            position: pair.lower.saturating_add(1),
+            position: pair.lower + 1,
             value: 1,
         })?;
         let mut right = Sparse::new(alloc);
         right.push(Entry {
-            position: pair.upper.saturating_add(1),
+            position: pair.upper + 1,
             value: 1,
         })?;
         Ok(Unit { left, right })

@@ -1,18 +1,10 @@
-use Rattle.std.proofs.Common.{rules, ◌≡◌, ◌<◌, ◌≤◌, length, slice_index_or, IfOk, ℕ, ◌+◌, ◌-◌, ◌*◌, ◌/◌, ◌%◌, Bool, true, false, nat_eq, nat_lt, List, [], ◌∷◌, ◌++◌, slice_set, bit_and, bit_or, Fits, w8, w32, w64, Bor, MutBor}
-use Rattle.linear_algebra.specs.Vectors.{column, dot}
-use Rattle.critical_laws.specs.Kinds.{criticals, part, spread}
-use Rattle.critical_laws.specs.Solutions.{IsCleared, IsExtension, without}
-use Rattle.critical_complex.specs.Units.{IsUnitOf, no_match}
-use Rattle.critical_complex.specs.Stages.{critical_from, place_of, IsSmall, IsPaired}
-use Rattle.vector_field.specs.Pairs.{IsFieldOf}
-use Rattle.critical_laws.specs.Pairs.{settle as settled}
-use Rattle.critical_complex.specs.Signed.{IsStageOf}
+use Rattle.critical_complex.proofs.Filling.{module_settled, clearing_is}
 use Rattle.critical_complex.proofs.stage.Stage.clearing.Goals as goal
 
--- src/stage.rt:150:17
 pub rest-requires-clause-below : goal.rest-requires-clause-below
-rest-requires-clause-below g c = ?
+rest-requires-clause-below g c =
+    module_settled g.F.Field.ops g.met.F.Field.laws c.args.self.now c.args.next.now c.requires.paired c.args.x.now c.in_ok-y.y c.settle.new.x c.len.result c.in_ok-y.ensures c.len.ensures.len c.settle.ensures
 
--- src/stage.rt:143:5
 pub returns : goal.returns
-returns g c = ?
+returns g c =
+    clearing_is g.F.Field.ops g.met.F.Field.laws c.args.self.now c.args.next.now c.requires.paired c.args.x.now c.in_ok-y.y c.settle.new.x c.in_ok-w.w c.len.result c.requires.cochain c.len-elements.ensures.elements c.in_ok-y.ensures c.len.ensures.len c.settle.ensures c.in_ok-w.ensures
