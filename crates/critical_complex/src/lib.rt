@@ -13,3 +13,6 @@ mod coboundary;
 pub use cleared::Cleared;
 pub use reduced::Reduced;
 pub use unit::Unit;
+
+#[cfg(test)]
+mod tests;
