@@ -103,7 +103,6 @@ module _ (F : Ops) (L : IsField F) where
       })
 
   module _ (s next : Stage) (P : IsPaired F s next) where
-
     -- what is settled from a marked cochain is the extension of the mark
     pub extension_of : (x x1 x2 zeros : List ℕ) (row p one : ℕ) → IsBlank F s.kinds x → row < criticals s.kinds → p ≡ place_of s.kinds row → one ≡ 1 → x1 ≡ set x p one → zeros ≡ replicate (length next.kinds) 0
         → x2 ≡ settle F s.rows zeros s.pairs x1 → IsExtension F (length s.kinds) (length next.kinds) s.rows s.kinds next.kinds (mark (criticals s.kinds) row) x2
@@ -133,10 +132,11 @@ module _ (F : Ops) (L : IsField F) where
     rows_more old new row lt h before j lj =
         let r : List ℕ = part next.kinds (combination F (length next.kinds) h.y s.rows) in
         elim (cases_eq j row) [
-          | inl b ↦
-            (h.y,
-             subst (λ (k : ℕ). IsExtension F (length s.kinds) (length next.kinds) s.rows s.kinds next.kinds (mark (criticals s.kinds) k) h.y) (sym b) h.extension,
-             ap (row_at new) b ∙ (ap (λ (x : List (List ℕ)). get_or x row []) h.is ∙ get_or-set_same old row r [] lt))
+          | inl b ↦ (
+            h.y,
+            subst (λ (k : ℕ). IsExtension F (length s.kinds) (length next.kinds) s.rows s.kinds next.kinds (mark (criticals s.kinds) k) h.y) (sym b) h.extension,
+            ap (row_at new) b ∙ (ap (λ (x : List (List ℕ)). get_or x row []) h.is ∙ get_or-set_same old row r [] lt),
+          )
           | inr b ↦ let k = before j (omega arith) in (k.0, k.1, ap (λ (x : List (List ℕ)). get_or x j []) h.is ∙ (get_or-set_other old row j r [] b ∙ k.2))
         ]
 
@@ -248,9 +248,10 @@ first_cleared F L ts x y w h l el e g =
 
 pub pair_small : (F : Ops) (s next : Stage) → IsPaired F s next → (i : ℕ) (p d : Match) → i < length s.pairs → p ≡ get_or s.pairs i d → (p.lower < length s.kinds) × (p.upper < length next.kinds)
 pair_small F s next P i p d lt e =
-    let a : (get_or s.pairs i d).lower < length s.rows = (triangular_at s.rows s.pairs i d P.matching.triangular lt).0 in
-    (subst (λ (q : Match). q.lower < length s.kinds) (sym e) (subst (λ (n : ℕ). (get_or s.pairs i d).lower < n) P.matching.long a),
-     subst (λ (q : Match). q.upper < length next.kinds) (sym e) (all_at_match (λ q. q.upper < length next.kinds) s.pairs i d lt P.matching.uppers))
+    let a : (get_or s.pairs i d).lower < length s.rows = (triangular_at s.rows s.pairs i d P.matching.triangular lt).0 in (
+      subst (λ (q : Match). q.lower < length s.kinds) (sym e) (subst (λ (n : ℕ). (get_or s.pairs i d).lower < n) P.matching.long a),
+      subst (λ (q : Match). q.upper < length next.kinds) (sym e) (all_at_match (λ q. q.upper < length next.kinds) s.pairs i d lt P.matching.uppers),
+    )
   where
     all_at_match : (Q : Match → Type 0) (ps : List Match) (i : ℕ) (d : Match) → i < length ps → AllByRecursion Q ps → Q (get_or ps i d)
     all_at_match Q [] i d lt h = absurd (omega arith)

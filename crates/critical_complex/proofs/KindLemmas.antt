@@ -15,8 +15,8 @@ kinds_more pairs dim i ks now k h here e = record {
       subst (λ (xs : List Kind). IsKind pairs dim (j + 1) (get_or xs j Critical)) (sym e)
       (elim (cases_eq j i) [
         | inl b ↦
-          subst (λ (n : ℕ). IsKind pairs dim (n + 1) (get_or (ks ++ k ∷ []) n Critical)) (sym b)
-          (subst (IsKind pairs dim (i + 1)) (sym (ap (λ (n : ℕ). get_or (ks ++ k ∷ []) n Critical) (sym h.long) ∙ get_or-append_seam ks k [] Critical)) here)
+            subst (λ (n : ℕ). IsKind pairs dim (n + 1) (get_or (ks ++ k ∷ []) n Critical)) (sym b)
+            (subst (IsKind pairs dim (i + 1)) (sym (ap (λ (n : ℕ). get_or (ks ++ k ∷ []) n Critical) (sym h.long) ∙ get_or-append_seam ks k [] Critical)) here)
         | inr b ↦ subst (IsKind pairs dim (j + 1)) (sym (get_or_append_left ks (k ∷ []) Critical j (let l : length ks ≡ i = h.long in omega arith))) (h.each j (omega arith))
       ]);
 }

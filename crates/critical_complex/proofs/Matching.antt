@@ -143,15 +143,16 @@ module _ (F : Ops) (L : IsField F) (space : List (List (List ℕ))) (negative : 
           let high_up : p.upper ≤ count space (dim + 1) = subst (λ (k : ℕ). p.upper ≤ count space (k + 1)) d i.high_up in
           let facet : holds (facets_of space (dim + 1) p.upper) p.lower ≡ true = subst (λ (k : ℕ). holds (facets_of space (k + 1) p.upper) p.lower ≡ true) d i.facet in
           let low : 1 ≤ p.lower = i.low in
-          let below : p.lower - 1 < count space dim = omega arith in
-          (subst (λ (n : ℕ). p.lower - 1 < n) (sym rows_long) below,
-           (λ z. sign_some (negative (dim + 1) p.upper p.lower) (sym (entry_at p.lower p.upper i.low high i.low_up high_up ∙ ap (λ (b : Bool). cond b (sign_element F (negative (dim + 1) p.upper p.lower)) 0) facet) ∙ z)),
-           all_matches dim (λ q. entry (signed_rows F space negative dim) q.lower (p.upper - 1) ≡ 0) ps
-           (λ q m dq.
-           let j : Incident space q = h q (there m) in
-           entry_at q.lower p.upper j.low (subst (λ (k : ℕ). q.lower ≤ count space k) dq j.high) i.low_up high_up
-           ∙ ap (λ (b : Bool). cond b (sign_element F (negative (dim + 1) p.upper q.lower)) 0) (apart_entry p q (l.0 q m) d dq)),
-           r)
+          let below : p.lower - 1 < count space dim = omega arith in (
+            subst (λ (n : ℕ). p.lower - 1 < n) (sym rows_long) below,
+            (λ z. sign_some (negative (dim + 1) p.upper p.lower) (sym (entry_at p.lower p.upper i.low high i.low_up high_up ∙ ap (λ (b : Bool). cond b (sign_element F (negative (dim + 1) p.upper p.lower)) 0) facet) ∙ z)),
+            all_matches dim (λ q. entry (signed_rows F space negative dim) q.lower (p.upper - 1) ≡ 0) ps
+                (λ q m dq.
+                let j : Incident space q = h q (there m) in
+                entry_at q.lower p.upper j.low (subst (λ (k : ℕ). q.lower ≤ count space k) dq j.high) i.low_up high_up
+                ∙ ap (λ (b : Bool). cond b (sign_element F (negative (dim + 1) p.upper q.lower)) 0) (apart_entry p q (l.0 q m) d dq)),
+            r,
+          )
 
   module _ (pairs : List Pair) (V : IsValid space pairs) where
     fact : (p : Pair) → In p pairs → Incident space p
@@ -263,13 +264,14 @@ splitting F L space negative pairs stages now V r e =
 pub stages_more : (F : Ops) (space : List (List (List ℕ))) (negative : ℕ → ℕ → ℕ → Bool) (pairs : List Pair) (stages now : List Stage) (s : Stage) (i : ℕ) → length stages ≡ i
     → ((degree : ℕ) → degree < i → IsStageOf F space negative pairs degree (stage_at stages degree)) → IsStageOf F space negative pairs i s → now ≡ stages ++ s ∷ []
     → (length now ≡ i + 1) × ((degree : ℕ) → degree < i + 1 → IsStageOf F space negative pairs degree (stage_at now degree))
-stages_more F space negative pairs stages now s i l before last e =
-    (ap (λ (xs : List Stage). length xs) e ∙ (length-append stages (s ∷ []) ∙ ap (λ (n : ℕ). n + 1) l),
-     (λ j lj.
-     subst (λ (xs : List Stage). IsStageOf F space negative pairs j (stage_at xs j)) (sym e)
-     (elim (cases_eq j i) [
-       | inl b ↦
-         subst (λ (n : ℕ). IsStageOf F space negative pairs n (stage_at (stages ++ s ∷ []) n)) (sym b)
-         (subst (IsStageOf F space negative pairs i) (sym (ap (λ (n : ℕ). get_or (stages ++ s ∷ []) n empty_stage) (sym l) ∙ get_or-append_seam stages s [] empty_stage)) last)
-       | inr b ↦ subst (IsStageOf F space negative pairs j) (sym (get_or_append_left stages (s ∷ []) empty_stage j (omega arith))) (before j (omega arith))
-     ])))
+stages_more F space negative pairs stages now s i l before last e = (
+  ap (λ (xs : List Stage). length xs) e ∙ (length-append stages (s ∷ []) ∙ ap (λ (n : ℕ). n + 1) l),
+  (λ j lj.
+      subst (λ (xs : List Stage). IsStageOf F space negative pairs j (stage_at xs j)) (sym e)
+      (elim (cases_eq j i) [
+        | inl b ↦
+            subst (λ (n : ℕ). IsStageOf F space negative pairs n (stage_at (stages ++ s ∷ []) n)) (sym b)
+            (subst (IsStageOf F space negative pairs i) (sym (ap (λ (n : ℕ). get_or (stages ++ s ∷ []) n empty_stage) (sym l) ∙ get_or-append_seam stages s [] empty_stage)) last)
+        | inr b ↦ subst (IsStageOf F space negative pairs j) (sym (get_or_append_left stages (s ∷ []) empty_stage j (omega arith))) (before j (omega arith))
+      ])),
+)

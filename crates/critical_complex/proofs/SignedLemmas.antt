@@ -49,9 +49,13 @@ module _ (F : Ops) (L : IsField F) where
   pub column_from : (n : ℕ) (h : ℕ → ℕ) → ((f : ℕ) → h f < F.size) → (fs : List ℕ) → IsStrictlyIncreasing fs → All (λ f. (1 ≤ f) × (f ≤ n)) fs → IsColumn F n fs (map h fs)
   column_from n h small [] r w = tt
   column_from n h small (f ∷ fs) r w =
-      let first = w 0 0 (omega arith) in
-      (first.0, first.1, small f, holds-none fs f (λ k d lt e. let g : f < get_or fs k d = increasing_head f fs r k d lt in omega arith),
-       column_from n h small fs (increasing_tail f fs r) (λ k d lt. w (suc k) d (omega arith)))
+      let first = w 0 0 (omega arith) in (
+        first.0,
+        first.1,
+        small f,
+        holds-none fs f (λ k d lt e. let g : f < get_or fs k d = increasing_head f fs r k d lt in omega arith),
+        column_from n h small fs (increasing_tail f fs r) (λ k d lt. w (suc k) d (omega arith)),
+      )
 
   columns_from : (n : ℕ) (fac : ℕ → List ℕ) (h : ℕ → ℕ → ℕ) (xs : List ℕ) → ((k : ℕ) → k < length xs → IsColumn F n (fac (get_or xs k 0)) (map (h (get_or xs k 0)) (fac (get_or xs k 0)))) → AreColumns F n (map fac xs) (map (λ b. map (h b) (fac b)) xs)
   columns_from n fac h [] k = tt

@@ -87,7 +87,11 @@ impl<F: Field> Columns<F> {
 
 impl<F: Field> Columns<F> {
     /// The coboundary of a dimension of a signed set.
-    pub(crate) fn of_signed<G: Signed>(alloc: Global, graded: &G, dim: u8) -> Result<Columns<F>, AllocError>
+    pub(crate) fn of_signed<G: Signed>(
+        alloc: Global,
+        graded: &G,
+        dim: u8,
+    ) -> Result<Columns<F>, AllocError>
         requires { dim ≤ 4 }
         ensures few { IfOk result (λ s. s.cols ≤ 4294967295) }
         ensures cols { IfOk result (λ s. s.cols ≡ count (G.space graded.now) (dim + 1)) }

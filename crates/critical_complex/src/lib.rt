@@ -1,18 +1,17 @@
-//! The reduction of a signed set to the critical cells of a field of pairs.
+//! A signed set with a field of pairs of its cells, reduced to the critical cells: extensions of values at
+//! critical cells, the coboundaries of extensions, clearing, and units. Each is the unique solution of
+//! linear conditions, found by substitution in the order of the field. (Discrete Morse theory; R. Forman.)
 #![tactic(auto)]
 
 mod cleared;
+mod coboundary;
 mod columns;
 mod listing;
 mod reduced;
+mod stage;
 mod substitution;
 mod unit;
-mod stage;
-mod coboundary;
 
 pub use cleared::Cleared;
 pub use reduced::Reduced;
 pub use unit::Unit;
-
-#[cfg(test)]
-mod tests;

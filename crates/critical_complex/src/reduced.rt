@@ -56,10 +56,7 @@ fn list_stages<F: Field, G: Signed>(
 }
 
 /// The coboundaries of the extensions, for each degree.
-fn list_matrices<F: Field>(
-    alloc: Global,
-    stages: &[Stage<F>],
-) -> Result<Vec<Matrix<F>>, AllocError>
+fn list_matrices<F: Field>(alloc: Global, stages: &[Stage<F>]) -> Result<Vec<Matrix<F>>, AllocError>
     requires { IsSplitting F.ops stages.now }
     ensures { IfOk result (λ matrices. AreMatrices F.ops stages.now 4 matrices.items) }
 {

@@ -9,10 +9,10 @@ ghost use Rattle.vector_field.specs.Pairs.{IsFieldOf};
 ghost use Rattle.critical_laws.specs.Pairs.{settle as settled};
 ghost use Rattle.critical_complex.specs.Signed.{IsStageOf};
 
+use crate::cleared::Cleared;
 use crate::columns::Columns;
 use crate::listing::{list_critical, list_kinds, list_pairs};
 use crate::substitution::settle;
-use crate::cleared::Cleared;
 use crate::unit::Unit;
 use critical_laws::{Kind, Match};
 use face_poset::Signed;
@@ -126,7 +126,12 @@ impl<F: Field> Stage<F> {
     }
 
     /// The extension of values at the critical cells.
-    pub(crate) fn extension(&self, alloc: Global, next: &Stage<F>, w: &Row<F>) -> Result<Cochain<F>, AllocError>
+    pub(crate) fn extension(
+        &self,
+        alloc: Global,
+        next: &Stage<F>,
+        w: &Row<F>,
+    ) -> Result<Cochain<F>, AllocError>
         requires paired { IsPaired F.ops self.now next.now }
         requires values { length w.now ≡ criticals self.now.kinds }
         ensures { IfOk result (IsExtension F.ops (length self.now.kinds) (length next.now.kinds) self.now.rows self.now.kinds next.now.kinds w.now) }
@@ -140,7 +145,12 @@ impl<F: Field> Stage<F> {
 
     /// Clears a cochain of the next degree: a cochain on the lowers here whose coboundary is the cochain on the
     /// uppers there, and what is left at the critical cells.
-    pub(crate) fn clearing(&self, alloc: Global, next: &Stage<F>, x: &Cochain<F>) -> Result<Cleared<F>, AllocError>
+    pub(crate) fn clearing(
+        &self,
+        alloc: Global,
+        next: &Stage<F>,
+        x: &Cochain<F>,
+    ) -> Result<Cleared<F>, AllocError>
         requires paired { IsPaired F.ops self.now next.now }
         requires cochain { length x.now ≡ length next.now.kinds }
         ensures { IfOk result (λ r. IsCleared F.ops (length self.now.kinds) (length next.now.kinds) self.now.rows self.now.kinds next.now.kinds x.now r.w r.y) }
@@ -153,7 +163,11 @@ impl<F: Field> Stage<F> {
     }
 
     /// Clears a cochain of this degree, the first, in which there is no upper: nothing is taken away.
-    pub(crate) fn clearing_first(&self, alloc: Global, x: &Cochain<F>) -> Result<Cleared<F>, AllocError>
+    pub(crate) fn clearing_first(
+        &self,
+        alloc: Global,
+        x: &Cochain<F>,
+    ) -> Result<Cleared<F>, AllocError>
         requires first { HasNoUpper self.now.kinds }
         requires cochain { length x.now ≡ length self.now.kinds }
         ensures { IfOk result (λ r. IsCleared F.ops 0 (length self.now.kinds) [] [] self.now.kinds x.now r.w r.y) }
@@ -165,7 +179,13 @@ impl<F: Field> Stage<F> {
     }
 
     /// What is left of a cochain of the next degree less a coboundary, at the critical cells.
-    fn rest(&self, alloc: Global, next: &Stage<F>, x: &Cochain<F>, y: &Cochain<F>) -> Result<Row<F>, AllocError>
+    fn rest(
+        &self,
+        alloc: Global,
+        next: &Stage<F>,
+        x: &Cochain<F>,
+        y: &Cochain<F>,
+    ) -> Result<Row<F>, AllocError>
         requires paired { IsPaired F.ops self.now next.now }
         requires cochain { length x.now ≡ length next.now.kinds }
         requires below { length y.now ≡ length self.now.kinds }
@@ -189,7 +209,12 @@ impl<F: Field> Stage<F> {
     }
 
     /// The lower of a pair with the value 1, and its upper with the value 1.
-    pub(crate) fn unit(&self, alloc: Global, next: &Stage<F>, index: u32) -> Result<Unit, AllocError>
+    pub(crate) fn unit(
+        &self,
+        alloc: Global,
+        next: &Stage<F>,
+        index: u32,
+    ) -> Result<Unit, AllocError>
         requires paired { IsPaired F.ops self.now next.now }
         requires index { index < length self.now.pairs }
         ensures { IfOk result (IsUnitOf (slice_index_or self.now.pairs index no_match)) }

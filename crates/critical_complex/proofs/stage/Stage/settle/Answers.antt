@@ -11,4 +11,3 @@ pub settle-requires-clause-uppers : goal.settle-requires-clause-uppers
 settle-requires-clause-uppers g c =
     subst (λ (ps : List Match). AllByRecursion (λ (p : Match). p.upper < c.self.inside.columns.cols) ps) (sym (c.deref.ensures.value ∙ ap (λ (s : Stage). s.pairs) c.self.view_is))
     (subst (λ (n : ℕ). AllByRecursion (λ (p : Match). p.upper < n) c.args.self.now.pairs) (sym (ap (λ (s : Stage). s.cols) c.self.view_is ∙ c.requires.paired.cols)) c.requires.paired.matching.uppers)
-
