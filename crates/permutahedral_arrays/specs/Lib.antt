@@ -1,0 +1,3 @@
+pub mod Permutahedra
+pub mod Places
+pub mod Laws
