@@ -1,10 +1,14 @@
 -- The definitions on worked examples. The places are those of the bytes of the text beside each.
-use Rattle.std.proofs.Common.{◌≡◌, ℕ, List, [], ◌∷◌, Result, Ok, Err, refl}
-use Rattle.gap_text.specs.Value.{Value, Values, number, list, none, more}
+use Rattle.std.proofs.Common.{◌≡◌, ℕ, List, [], ◌∷◌, Result, Ok, Err, map, length, refl}
+use Rattle.gap_text.specs.Value.{number, list, none, more}
 use Rattle.array_values.specs.declared.fault.ArrayFault.{ArrayFault}
 use Rattle.permutahedral_arrays.specs.Permutahedra.{permutahedral_of}
-use Rattle.permutahedral_arrays.specs.Laws.{counted}
 use Rattle.permutahedral_arrays.specs.Places.{places_of}
+
+-- how many cells a space has in each dimension
+abbrev counted : Result (List (List (List ℕ))) ArrayFault → List ℕ
+counted (Ok space) = map length space
+counted (Err fault) = []
 
 -- [[0,1],[1,0]]
 pub two_points : counted (permutahedral_of (list 0 (more (list 1 (more (number 2 0) (more (number 4 1) none))) (more (list 7 (more (number 8 1) (more (number 10 0) none))) none))))

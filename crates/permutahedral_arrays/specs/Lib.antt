@@ -1,3 +1,2 @@
 pub mod Permutahedra
 pub mod Places
-pub mod Laws

@@ -1,7 +1,7 @@
 -- Points by their places. A box with so many planes, rows and columns of bits has the points with coordinates from -1 to the number of
--- these in each direction. Its points are numbered from 0 in lexicographic order: the number is the place of the point. The steps are the
+-- these in each direction. Its points are numbered from 1 in lexicographic order: the number is the place of the point. The steps are the
 -- differences of places from one plane (slab) and one row to the next. An array of two levels is one plane, and its cells stay in it.
-use Rattle.std.specs.Prelude.{ℕ, zero, suc, ◌+◌, ◌-◌, ◌*◌, ◌/◌, ◌%◌, ◌==◌, ◌&&◌, List, [], ◌∷◌, ◌++◌, length, map, filter, slice_index_or, Bool, true, false, cond, nat_le, nat_lt, Result, Ok, Err}
+use Rattle.std.specs.Prelude.{ℕ, zero, suc, ◌+◌, ◌-◌, ◌*◌, ◌/◌, ◌%◌, ◌==◌, ◌&&◌, List, [], ◌∷◌, ◌++◌, length, map, filter, slice_index_or, Bool, false, cond, nat_le, nat_lt, Result, Ok, Err}
 use Rattle.std.specs.List.{flat_map, list_all, list_any, range_with_len}
 use Rattle.gap_text.specs.Value.{Value}
 use Rattle.face_poset.specs.Words.{upto}
@@ -40,7 +40,7 @@ cell_at slab row first shape = map (λ vector. first + step slab row vector) sha
 
 -- whether the point at a place is present, by the marks of all places
 abbrev pub is_present : (marks : List Bool) → (place : ℕ) → Bool
-is_present marks place = slice_index_or marks place false
+is_present marks place = slice_index_or marks (place - 1) false
 
 -- the cells of these shapes with a first point
 abbrev pub cells_at : (slab row : ℕ) → (marks : List Bool) → (shapes : List (List ℕ)) → (first : ℕ) → List (List ℕ)
@@ -48,7 +48,7 @@ cells_at slab row marks shapes first = filter (list_any (is_present marks)) (map
 
 -- the cells of these shapes, in lexicographic order
 abbrev pub cells_of : (slab row : ℕ) → (marks : List Bool) → (shapes : List (List ℕ)) → List (List ℕ)
-cells_of slab row marks shapes = flat_map (cells_at slab row marks shapes) (range_with_len 0 (length marks))
+cells_of slab row marks shapes = flat_map (cells_at slab row marks shapes) (range_with_len 1 (length marks))
 
 -- a cell holds all points of another
 abbrev pub holds : (above cell : List ℕ) → Bool
@@ -72,7 +72,7 @@ limited v e f s = cond (nat_lt 60000 (length v + length e + length f + length s)
 abbrev pub is_inside : (size c : ℕ) → Bool
 is_inside size c = nat_lt 0 c && nat_le c size
 
--- the mark of a place, whose plane, row and column are counted from -1 and written higher by one
+-- the mark of a point, whose plane, row and column are counted from -1 and written higher by one
 abbrev pub mark_at : (planes rows columns : ℕ) → (bits : List Bool) → (x y z : ℕ) → Bool
 mark_at planes rows columns bits x y z =
     cond (is_inside planes x && (is_inside rows y && is_inside columns z)) (slice_index_or bits (((x - 1) * rows + (y - 1)) * columns + (z - 1)) false) false

@@ -46,7 +46,7 @@ fn list_points(
 fn is_present(marks: &[bool], place: u32) -> bool
     ensures { result ≡ is_present marks.now place }
 {
-    let index = place as usize;
+    let index = place.saturating_sub(1) as usize;
     if index < marks.len() {
         marks[index]
     } else {
@@ -105,13 +105,13 @@ pub(crate) fn list_cells(
 {
     let mut cells = Lists::new(alloc);
     let mut points = Vec::new(alloc);
-    for first in 0..marks.len() {
+    for index in 0..marks.len() {
         push_cells(
             slab,
             row,
             marks,
             shapes,
-            first as u32,
+            index as u32 + 1,
             &mut points,
             &mut cells,
         )?;

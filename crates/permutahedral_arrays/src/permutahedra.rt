@@ -61,7 +61,7 @@ fn space_with(
     if vertices.len() + edges.len() + faces.len() + solids.len() > MOST_CELLS {
         return Err(ArrayFault::TooManyCells);
     }
-    Ok(build(alloc, &vertices, &edges, &faces, &solids)?)
+    Ok(build(alloc, marks.len(), &vertices, &edges, &faces, &solids)?)
 }
 
 /// The cells of a dimension with a marked point, or `TooManyCells` only where there are more than

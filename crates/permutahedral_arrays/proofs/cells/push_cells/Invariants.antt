@@ -1,6 +1,5 @@
-use Rattle.std.proofs.Common.{◌≡◌, ◌≤◌, ◌++◌, ◌∷◌, ◌-◌, ◌+◌, ℕ, [], length, take, map, filter, get_or, set}
-use Rattle.std.specs.List.{flat_map, range_with_len}
-use Rattle.permutahedral_arrays.specs.Places.{is_below, last_of, longer, shapes_of, cell_at, cells_at, holds, facets_of, mark_of}
+use Rattle.std.proofs.Common.{◌≡◌, ◌++◌, take}
+use Rattle.permutahedral_arrays.specs.Places.{cells_at}
 use Rattle.permutahedral_arrays.proofs.cells.push_cells.Given as goal
 
 abbrev pub invariant-loop-index : goal.invariant-loop-index

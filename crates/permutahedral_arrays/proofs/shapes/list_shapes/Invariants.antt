@@ -1,4 +1,4 @@
-use Rattle.std.proofs.Common.{◌≡◌, ◌≤◌}
+use Rattle.std.proofs.Common.{◌≡◌}
 use Rattle.permutahedral_arrays.specs.Places.{shapes_of}
 use Rattle.permutahedral_arrays.proofs.shapes.list_shapes.Given as goal
 

@@ -1,4 +1,4 @@
-use Rattle.std.proofs.Common.{◌≡◌, ◌+◌, ◌++◌, ◌∷◌, [], ℕ, List, Bool, true, false, ap, sym, ◌∙◌, arith}
+use Rattle.std.proofs.Common.{◌≡◌, ◌++◌, ◌∷◌, [], ℕ, List, Bool, ap, sym, ◌∙◌}
 use Rattle.permutahedral_arrays.specs.Places.{is_below, last_of}
 use Rattle.permutahedral_arrays.proofs.Growing.{made_with, made_without}
 use Rattle.permutahedral_arrays.proofs.shapes.push_longer.Goals as goal

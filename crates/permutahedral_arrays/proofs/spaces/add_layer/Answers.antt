@@ -9,7 +9,7 @@ pub add-requires-clause-cell : goal.add-requires-clause-cell
 add-requires-clause-cell c some =
     let above : List (List ℕ) = c.args.above.now in
     let n : count c.loop-index.builder (c.args.dim - 1) ≡ length above =
-      count-other c.loop-index.builder c.args.builder.now c.args.dim (map (facets_of above) (take c.loop-index.index c.args.cells.now)) some c.loop-index.invariant ∙ c.requires.below some in
+    count-other c.loop-index.builder c.args.builder.now c.args.dim (map (facets_of above) (take c.loop-index.index c.args.cells.now)) some c.loop-index.invariant ∙ c.requires.below some in
     let filled : 1 ≤ length c.deref.result.now = elim c.else-dim-gt0.branch [
       | else-dim-gt0-via-then-dim-gt0+else-len-eq0 w ↦ omega (arith, w.len.ensures, w.if-len-eq0.false, c.deref.ensures.len, ap length c.deref.ensures.value)
       | else-dim-gt0-via-else-dim-gt0 w ↦ omega (arith, w.if-dim-gt0.false, some)

@@ -1,26 +1,33 @@
-use Rattle.std.proofs.Common.{◌≡◌, ◌+◌, ◌-◌, ◌++◌, ◌∷◌, [], ℕ, List, Bool, true, false, filter, get_or, ap, sym, ◌∙◌, arith}
-use Rattle.std.specs.List.{range_with_len}
+use Rattle.std.proofs.Common.{◌-◌, [], ℕ, List, Bool, filter, length, get_or, ap, ◌∙◌, arith}
+use Rattle.std.proofs.lemmas.List.{take_all}
+use Rattle.std.proofs.lemmas.List.FromFn.{length-map-range_with_len}
+use Rattle.face_poset.specs.Poset.{cells_with}
 use Rattle.permutahedral_arrays.specs.Places.{holds}
-use Rattle.permutahedral_arrays.proofs.Growing.{filter_with, filter_without}
+use Rattle.permutahedral_arrays.proofs.Growing.{facets_among, listed-below}
 use Rattle.permutahedral_arrays.proofs.spaces.list_facets.Goals as goal
-use Rattle.permutahedral_arrays.proofs.spaces.list_facets.Goals.{then-holds+in_ok-push, else-holds}
 
--- the test of the number of an index
-test_at : (above : List (List ℕ)) (cell got : List ℕ) (index : ℕ) → got ≡ get_or above index [] → holds got cell ≡ holds (get_or above ((index + 1) - 1) []) cell
-test_at above cell got index e =
-    let n : index ≡ (index + 1) - 1 = omega arith in
-    ap (λ (xs : List ℕ). holds xs cell) (e ∙ ap (λ (i : ℕ). get_or above i []) n)
+pub get-listed-requires : goal.get-listed-requires
+get-listed-requires c =
+    omega (arith, ap length c.requires.holders, length-map-range_with_len (cells_with c.args.above.now) 1 c.args.most, c.if-cell-most.false, c.if-cell-eq0-2.false)
 
-pub loop-index-preserved : goal.loop-index-preserved
-loop-index-preserved c =
-    let above : List (List ℕ) = c.args.above.now in
-    let cell : List ℕ = c.args.cell.now in
-    let i : ℕ = c.loop-index.index in
-    let p : ℕ → Bool = λ n. holds (get_or above (n - 1) []) cell in
-    let e : c.holds.result ≡ p (i + 1) = c.holds.ensures ∙ test_at above cell c.get.result.now i c.get.ensures in
-    elim c.if-holds.branch [
-      | then-holds+in_ok-push w ↦
-          ap (λ f. f.items) w.facets-is ∙ (w.in_ok-push.ensures.items ∙ (ap (λ (xs : List ℕ). xs ++ (i + 1) ∷ []) c.loop-index.invariant ∙ sym (filter_with p 1 i (i + 1) (omega arith) (sym e ∙ w.if-holds.true))))
-      | else-holds w ↦
-          ap (λ f. f.items) w.facets-is ∙ (c.loop-index.invariant ∙ sym (filter_without p 1 i (i + 1) (omega arith) (sym e ∙ w.if-holds.false)))
-    ]
+pub overflow_sub-number : goal.overflow_sub-number
+overflow_sub-number c =
+    let v : ℕ = get_or c.args.cell.now 0 0 in
+    (listed-below c.args.above.now c.get-listed.result.now c.args.most v c.loop-number.number-index (omega (arith, c.if-cell-eq0-2.false)) c.if-cell-most.false
+    (c.get-listed.ensures ∙ ap (λ (ls : List (List ℕ)). get_or ls (v - 1) []) c.requires.holders) c.loop-number-test.true).0
+
+pub get-requires : goal.get-requires
+get-requires c =
+    let v : ℕ = get_or c.args.cell.now 0 0 in
+    let below = listed-below c.args.above.now c.get-listed.result.now c.args.most v c.loop-number.number-index (omega (arith, c.if-cell-eq0-2.false)) c.if-cell-most.false
+    (c.get-listed.ensures ∙ ap (λ (ls : List (List ℕ)). get_or ls (v - 1) []) c.requires.holders) c.loop-number-test.true in
+    omega (arith, below.0, below.1)
+
+pub returns : goal.returns
+returns c =
+    let v : ℕ = get_or c.args.cell.now 0 0 in
+    let p : ℕ → Bool = λ n. holds (get_or c.args.above.now (n - 1) []) c.args.cell.now in
+    c.loop-number.invariant
+    ∙ (ap (filter p) (take_all c.loop-number.number-index c.get-listed.result.now (omega (arith, c.loop-number-test.false)))
+    ∙ facets_among c.args.above.now c.args.cell.now c.get-listed.result.now c.args.most (omega (arith, c.if-cell-eq0.false)) (omega (arith, c.if-cell-eq0-2.false)) c.if-cell-most.false
+    (c.get-listed.ensures ∙ ap (λ (ls : List (List ℕ)). get_or ls (v - 1) []) c.requires.holders))

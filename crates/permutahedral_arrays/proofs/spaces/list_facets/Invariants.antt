@@ -1,7 +1,6 @@
-use Rattle.std.proofs.Common.{◌≡◌, ◌≤◌, ◌++◌, ◌∷◌, ◌-◌, ◌+◌, ℕ, [], length, take, map, filter, get_or, set}
-use Rattle.std.specs.List.{flat_map, range_with_len}
-use Rattle.permutahedral_arrays.specs.Places.{is_below, last_of, longer, shapes_of, cell_at, cells_at, holds, facets_of, mark_of}
+use Rattle.std.proofs.Common.{◌≡◌, ◌-◌, [], take, filter, get_or}
+use Rattle.permutahedral_arrays.specs.Places.{holds}
 use Rattle.permutahedral_arrays.proofs.spaces.list_facets.Given as goal
 
-abbrev pub invariant-loop-index : goal.invariant-loop-index
-invariant-loop-index l = l.facets.items ≡ filter (λ n. holds (get_or l.above (n - 1) []) l.cell) (range_with_len 1 l.index)
+abbrev pub invariant-loop-number : goal.invariant-loop-number
+invariant-loop-number l = l.facets.items ≡ filter (λ n. holds (get_or l.above (n - 1) []) l.cell) (take l.number-index l.listed)
