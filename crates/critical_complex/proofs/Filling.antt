@@ -1,0 +1,259 @@
+-- A matrix filled with the coboundaries of extensions.
+use Rattle.std.proofs.Common.{◌≡◌, ◌≢◌, ◌⊎◌, inl, inr, ℕ, zero, suc, ◌+◌, ◌-◌, ◌≤◌, ◌<◌, List, [], ◌∷◌, length, length-set, replicate, get_or, set, get_or-set_same, get_or-set_other, refl, ap, sym, ◌∙◌, arith, subst}
+use Rattle.std.proofs.lemmas.Bool.{cases_eq}
+use Rattle.std.proofs.lemmas.Simd.{length-replicate}
+use Rattle.small_field.specs.Field.{Ops, IsField}
+use Rattle.small_field.proofs.Laws.{zero_below, neg_mul}
+use Rattle.linear_algebra.specs.Marks.{mark}
+use Rattle.linear_algebra.specs.Vectors.{dot, column, combination, plus_scaled, row_at, AreElements, IsVector, IsMatrix}
+use Rattle.linear_algebra.proofs.Decide.{entry_combination}
+use Rattle.linear_algebra.proofs.Span.{combination-vector, zeros-elements, plus_scaled-long}
+use Rattle.linear_algebra.proofs.Dot.{dot_below}
+use Rattle.std.specs.List.{AllByRecursion}
+use Rattle.critical_laws.specs.declared.kind.Kind.TheVariants.{Critical, Lower, Upper}
+use Rattle.critical_complex.proofs.Pairwise.{triangular_at}
+use Rattle.critical_laws.specs.declared.kind.Kind.{Kind}
+use Rattle.critical_laws.specs.declared.matching.Match.{Match}
+use Rattle.critical_laws.specs.Kinds.{criticals, part, spread, ZeroOnUppers, HasNoUpper}
+use Rattle.critical_laws.specs.Pairs.{IsMatching, settle}
+use Rattle.critical_laws.specs.Solutions.{IsExtension, IsReducedBy, IsCleared, without}
+use Rattle.critical_laws.proofs.Parts.{plus_none, part-long, part-zeros, none-zeros, spread_long, spread_elements, spread_own, spread_none}
+use Rattle.critical_laws.proofs.Fields.{extended, split_of_field, cleared, settled-vector}
+use Rattle.critical_laws.proofs.Solved.{extension_is_one}
+use Rattle.critical_complex.specs.Stages.{Stage, IsPaired, place_of}
+use Rattle.critical_complex.specs.Blanks.{IsBlank, HasRow}
+use Rattle.critical_complex.proofs.Placed.{place_below, part_at, part_set, none_set, same_list}
+
+set_twice : {X : Type 0} (xs : List X) (i : ℕ) (a b : X) → set (set xs i a) i b ≡ set xs i b
+set_twice [] i a b = refl
+set_twice (x ∷ xs) zero a b = refl
+set_twice {X} (x ∷ xs) (suc i) a b = ap (λ (r : List X). x ∷ r) (set_twice xs i a b)
+
+set_zeros : (c i : ℕ) → set (replicate {A = ℕ} c 0) i 0 ≡ replicate c 0
+set_zeros zero i = refl
+set_zeros (suc c) zero = refl
+set_zeros (suc c) (suc i) = ap (λ (r : List ℕ). 0 ∷ r) (set_zeros c i)
+
+-- ---- one row, entry by entry
+
+pub record RowFilled (rows0 rows : List (List ℕ)) (row cols col : ℕ) (target : List ℕ) : Type 0 where
+  pub others : rows ≡ set rows0 row (get_or rows row [])
+  pub long : length (get_or rows row []) ≡ cols
+  pub same : (j : ℕ) → j < col → get_or (get_or rows row []) j 0 ≡ get_or target j 0
+
+pub entry_more : (rows0 rows now : List (List ℕ)) (row cols col v : ℕ) (target : List ℕ) → row < length rows0 → col < cols → rows ≡ set rows0 row (get_or rows row []) → length (get_or rows row []) ≡ cols
+    → ((j : ℕ) → j < col → get_or (get_or rows row []) j 0 ≡ get_or target j 0) → now ≡ set rows row (set (get_or rows row []) col v) → v ≡ get_or target col 0 → RowFilled rows0 now row cols (col + 1) target
+entry_more rows0 rows now row cols col v target lr lc others long same e g =
+    let r : List ℕ = set (get_or rows row []) col v in
+    let lrow : row < length rows = subst (λ (n : ℕ). row < n) (sym (ap (λ (x : List (List ℕ)). length x) others ∙ length-set rows0 row (get_or rows row []))) lr in
+    let at : get_or now row [] ≡ r = ap (λ (x : List (List ℕ)). get_or x row []) e ∙ get_or-set_same rows row r [] lrow in
+    record {
+      others = e ∙ (ap (λ (x : List (List ℕ)). set x row r) others ∙ (set_twice rows0 row (get_or rows row []) r ∙ ap (set rows0 row) (sym at)));
+      long = ap (λ (x : List ℕ). length x) at ∙ (length-set (get_or rows row []) col v ∙ long);
+      same = λ j lj.
+          ap (λ (x : List ℕ). get_or x j 0) at
+          ∙ elim (cases_eq j col) [
+            | inl b ↦ ap (λ (k : ℕ). get_or r k 0) b ∙ (get_or-set_same (get_or rows row []) col v 0 (subst (λ (n : ℕ). col < n) (sym long) lc) ∙ (g ∙ ap (λ (k : ℕ). get_or target k 0) (sym b)))
+            | inr b ↦ get_or-set_other (get_or rows row []) col j v 0 b ∙ same j (omega arith)
+          ];
+    }
+
+pub row_final : (rows0 rows : List (List ℕ)) (row cols col : ℕ) (target : List ℕ) → length target ≡ cols → cols ≤ col → rows ≡ set rows0 row (get_or rows row []) → length (get_or rows row []) ≡ cols
+    → ((j : ℕ) → j < col → get_or (get_or rows row []) j 0 ≡ get_or target j 0) → rows ≡ set rows0 row target
+row_final rows0 rows row cols col target lt le others long same =
+    others ∙ ap (set rows0 row) (same_list (get_or rows row []) target (long ∙ sym lt) (λ i li. same i (omega arith)))
+
+module _ (F : Ops) (L : IsField F) where
+  zeros-vector : (n : ℕ) → IsVector F n (replicate n 0)
+  zeros-vector n = record { long = length-replicate n 0; elements = zeros-elements F L n }
+
+  set_below : (xs : List ℕ) (i v : ℕ) → v < F.size → AreElements F xs → AreElements F (set xs i v)
+  set_below [] i v l h = h
+  set_below (x ∷ xs) zero v l h = (l, h.1)
+  set_below (x ∷ xs) (suc i) v l h = (h.0, set_below xs i v l h.1)
+
+  -- the coboundary at a critical cell
+  pub value_is : (m : ℕ) (rows : List (List ℕ)) (us : List Kind) (x : List ℕ) (col : ℕ) → IsMatrix F m rows → length us ≡ m → col < criticals us → dot F x (column (place_of us col) rows) ≡ get_or (part us (combination F m x rows)) col 0
+  value_is m rows us x col a l lt =
+      sym (entry_combination F L m (place_of us col) x rows a (subst (λ (n : ℕ). place_of us col < n) l (place_below us col lt)))
+      ∙ part_at us (combination F m x rows) col ((combination-vector F L m x rows a).long ∙ sym l) lt
+
+  pub target_long : (m : ℕ) (rows : List (List ℕ)) (us : List Kind) (x : List ℕ) → IsMatrix F m rows → length us ≡ m → length (part us (combination F m x rows)) ≡ criticals us
+  target_long m rows us x a l = part-long us (combination F m x rows) ((combination-vector F L m x rows a).long ∙ sym l)
+
+  pub blank_zeros : (ts : List Kind) (n : ℕ) (x : List ℕ) → n ≡ length ts → x ≡ replicate n 0 → IsBlank F ts x
+  blank_zeros ts n x l e =
+      let h : x ≡ replicate (length ts) 0 = e ∙ ap (λ (k : ℕ). replicate k 0) l in
+      subst (IsBlank F ts) (sym h) (record { vector = zeros-vector (length ts); part_zero = part-zeros ts (length ts) refl; uppers = none-zeros ts (length ts) refl })
+
+  -- a blank cochain with 1 at one critical cell
+  record Marked (ts : List Kind) (x : List ℕ) (row : ℕ) : Type 0 where
+    vector : IsVector F (length ts) x
+    own : part ts x ≡ mark (criticals ts) row
+    none : ZeroOnUppers ts x
+
+  marked : (ts : List Kind) (x now : List ℕ) (row p one : ℕ) → IsBlank F ts x → row < criticals ts → p ≡ place_of ts row → one ≡ 1 → now ≡ set x p one → Marked ts now row
+  marked ts x now row p one b lt e o s =
+      let h : now ≡ set x (place_of ts row) 1 = s ∙ (ap (λ (k : ℕ). set x k one) e ∙ ap (set x (place_of ts row)) o) in
+      subst (λ (y : List ℕ). Marked ts y row) (sym h)
+      (record {
+        vector = record { long = length-set x (place_of ts row) 1 ∙ b.vector.long; elements = set_below x (place_of ts row) 1 L.one_below b.vector.elements };
+        own = part_set ts x row 1 b.vector.long lt ∙ ap (λ (w : List ℕ). set w row 1) b.part_zero;
+        none = none_set ts x row 1 lt b.uppers;
+      })
+
+  module _ (s next : Stage) (P : IsPaired F s next) where
+    -- what is settled from a marked cochain is the extension of the mark
+    pub extension_of : (x x1 x2 zeros : List ℕ) (row p one : ℕ) → IsBlank F s.kinds x → row < criticals s.kinds → p ≡ place_of s.kinds row → one ≡ 1 → x1 ≡ set x p one → zeros ≡ replicate (length next.kinds) 0
+        → x2 ≡ settle F s.rows zeros s.pairs x1 → IsExtension F (length s.kinds) (length next.kinds) s.rows s.kinds next.kinds (mark (criticals s.kinds) row) x2
+    extension_of x x1 x2 zeros row p one b lt e o h z g =
+        let k : Marked s.kinds x1 row = marked s.kinds x x1 row p one b lt e o h in
+        subst (IsExtension F (length s.kinds) (length next.kinds) s.rows s.kinds next.kinds (mark (criticals s.kinds) row)) (sym (g ∙ ap (λ (t : List ℕ). settle F s.rows t s.pairs x1) z))
+        (extended F L (length s.kinds) (length next.kinds) s.rows s.kinds next.kinds s.pairs P.matching (mark (criticals s.kinds) row) x1 k.vector k.own k.none)
+
+    -- and with 0 put there again it is blank
+    pub blank_again : (x x1 x2 x3 zeros : List ℕ) (row p one none : ℕ) → IsBlank F s.kinds x → row < criticals s.kinds → p ≡ place_of s.kinds row → one ≡ 1 → x1 ≡ set x p one → zeros ≡ replicate (length next.kinds) 0
+        → x2 ≡ settle F s.rows zeros s.pairs x1 → none ≡ 0 → x3 ≡ set x2 p none → IsBlank F s.kinds x3
+    blank_again x x1 x2 x3 zeros row p one none b lt e o h z g n q =
+        let ex = extension_of x x1 x2 zeros row p one b lt e o h z g in
+        let i : x3 ≡ set x2 (place_of s.kinds row) 0 = q ∙ (ap (λ (k : ℕ). set x2 k none) e ∙ ap (set x2 (place_of s.kinds row)) n) in
+        subst (IsBlank F s.kinds) (sym i)
+        (record {
+          vector = record { long = length-set x2 (place_of s.kinds row) 0 ∙ ex.vector.long; elements = set_below x2 (place_of s.kinds row) 0 (zero_below F L) ex.vector.elements };
+          part_zero = part_set s.kinds x2 row 0 ex.vector.long lt ∙ (ap (λ (w : List ℕ). set w row 0) ex.own ∙ (set_twice (replicate (criticals s.kinds) 0) row 1 0 ∙ set_zeros (criticals s.kinds) row));
+          uppers = none_set s.kinds x2 row 0 lt ex.none;
+        })
+
+    -- ---- row by row
+
+    pub rows_more : (old new : List (List ℕ)) (row : ℕ) → row < length old → HasRow F s next old new row
+        → ((j : ℕ) → j < row → (y : List ℕ) × IsExtension F (length s.kinds) (length next.kinds) s.rows s.kinds next.kinds (mark (criticals s.kinds) j) y × (row_at old j ≡ part next.kinds (combination F (length next.kinds) y s.rows)))
+        → (j : ℕ) → j < row + 1 → (y : List ℕ) × IsExtension F (length s.kinds) (length next.kinds) s.rows s.kinds next.kinds (mark (criticals s.kinds) j) y × (row_at new j ≡ part next.kinds (combination F (length next.kinds) y s.rows))
+    rows_more old new row lt h before j lj =
+        let r : List ℕ = part next.kinds (combination F (length next.kinds) h.y s.rows) in
+        elim (cases_eq j row) [
+          | inl b ↦ (
+            h.y,
+            subst (λ (k : ℕ). IsExtension F (length s.kinds) (length next.kinds) s.rows s.kinds next.kinds (mark (criticals s.kinds) k) h.y) (sym b) h.extension,
+            ap (row_at new) b ∙ (ap (λ (x : List (List ℕ)). get_or x row []) h.is ∙ get_or-set_same old row r [] lt),
+          )
+          | inr b ↦ let k = before j (omega arith) in (k.0, k.1, ap (λ (x : List (List ℕ)). get_or x j []) h.is ∙ (get_or-set_other old row j r [] b ∙ k.2))
+        ]
+
+    pub rows_final : (rows : List (List ℕ)) (count : ℕ) → IsMatrix F (criticals next.kinds) rows → length rows ≡ criticals s.kinds → criticals s.kinds ≤ count
+        → ((j : ℕ) → j < count → (y : List ℕ) × IsExtension F (length s.kinds) (length next.kinds) s.rows s.kinds next.kinds (mark (criticals s.kinds) j) y × (row_at rows j ≡ part next.kinds (combination F (length next.kinds) y s.rows)))
+        → IsReducedBy F (length s.kinds) (length next.kinds) s.rows s.kinds next.kinds rows
+    rows_final rows count a l le h = record {
+      matrix = a;
+      long = l;
+      each = λ i x li e.
+          let k = h i (omega arith) in
+          k.2
+          ∙ ap (λ (y : List ℕ). part next.kinds (combination F (length next.kinds) y s.rows))
+          (extension_is_one F L (length s.kinds) (length next.kinds) s.rows s.kinds next.kinds (split_of_field F L (length s.kinds) (length next.kinds) s.rows s.kinds next.kinds s.pairs P.matching) (mark (criticals s.kinds) i) k.0 x k.1 e);
+    }
+
+-- what is settled from values spread over the critical cells
+pub extension_is : (F : Ops) (L : IsField F) (s next : Stage) → IsPaired F s next → (w x zeros now : List ℕ) (n : ℕ) → length w ≡ criticals s.kinds → AreElements F w → x ≡ spread s.kinds w → zeros ≡ replicate n 0 → n ≡ length next.kinds
+    → now ≡ settle F s.rows zeros s.pairs x → IsExtension F (length s.kinds) (length next.kinds) s.rows s.kinds next.kinds w now
+extension_is F L s next P w x zeros now n l el e z k h =
+    let y : List ℕ = spread s.kinds w in
+    subst (IsExtension F (length s.kinds) (length next.kinds) s.rows s.kinds next.kinds w)
+    (sym (h ∙ (ap (λ (t : List ℕ). settle F s.rows t s.pairs x) (z ∙ ap (λ (c : ℕ). replicate c 0) k) ∙ ap (settle F s.rows (replicate (length next.kinds) 0) s.pairs) e)))
+    (extended F L (length s.kinds) (length next.kinds) s.rows s.kinds next.kinds s.pairs P.matching w y
+    (record { long = spread_long s.kinds w; elements = spread_elements F L s.kinds w el }) (spread_own s.kinds w l) (spread_none s.kinds w))
+
+-- ---- clearing
+
+plus_at : (F : Ops) (s : ℕ) (x d : List ℕ) (p : ℕ) → length x ≡ length d → p < length x → get_or (plus_scaled F s x d) p 0 ≡ F.add (get_or x p 0) (F.mul s (get_or d p 0))
+plus_at F s [] d p l lt = absurd (omega arith)
+plus_at F s (x ∷ xs) [] p l lt = absurd (omega arith)
+plus_at F s (x ∷ xs) (d ∷ ds) zero l lt = refl
+plus_at F s (x ∷ xs) (d ∷ ds) (suc p) l lt = plus_at F s xs ds p (omega arith) (omega arith)
+
+pub rest_value : (F : Ops) (L : IsField F) (m : ℕ) (rows : List (List ℕ)) (us : List Kind) (x y : List ℕ) (col p value a n d : ℕ) → IsMatrix F m rows → length us ≡ m → length x ≡ m → col < criticals us → p ≡ place_of us col
+    → value ≡ F.add a n → a ≡ get_or x (p + 1 - 1) 0 → n ≡ F.neg d → d ≡ dot F y (column p rows) → value ≡ get_or (part us (without F m rows x y)) col 0
+rest_value F L m rows us x y col p value a n d mx l lx lt e v ga gn gd =
+    let q : ℕ = place_of us col in
+    let dy : List ℕ = combination F m y rows in
+    let vd : IsVector F m dy = combination-vector F L m y rows mx in
+    let b : q < m = subst (λ (k : ℕ). q < k) l (place_below us col lt) in
+    let D : ℕ = dot F y (column q rows) in
+    let at : get_or (without F m rows x y) q 0 ≡ F.add (get_or x q 0) (F.neg D) =
+    plus_at F (F.neg 1) x dy q (lx ∙ sym vd.long) (subst (λ (k : ℕ). q < k) (sym lx) b)
+    ∙ ap (F.add (get_or x q 0)) (ap (F.mul (F.neg 1)) (entry_combination F L m q y rows mx b) ∙ (neg_mul F L 1 D ∙ ap F.neg (L.one_mul D (dot_below F L y (column q rows))))) in
+    let long : length (without F m rows x y) ≡ length us = plus_scaled-long F L (F.neg 1) x dy (lx ∙ sym vd.long) ∙ (lx ∙ sym l) in
+    v
+    ∙ (ap (λ (k : ℕ). F.add k n) (ga ∙ ap (λ (k : ℕ). get_or x k 0) (let z : p + 1 - 1 ≡ q = omega arith in z))
+    ∙ (ap (F.add (get_or x q 0)) (gn ∙ ap F.neg (gd ∙ ap (λ (k : ℕ). dot F y (column k rows)) e))
+    ∙ (sym at ∙ part_at us (without F m rows x y) col long lt)))
+
+pub entries_more : (target w now : List ℕ) (i v : ℕ) → i < length w → ((j : ℕ) → j < i → get_or w j 0 ≡ get_or target j 0) → v ≡ get_or target i 0 → now ≡ set w i v → (j : ℕ) → j < i + 1 → get_or now j 0 ≡ get_or target j 0
+entries_more target w now i v lt h g s j lj =
+    ap (λ (r : List ℕ). get_or r j 0) s
+    ∙ elim (cases_eq j i) [
+      | inl b ↦ ap (λ (k : ℕ). get_or (set w i v) k 0) b ∙ (get_or-set_same w i v 0 lt ∙ (g ∙ ap (λ (k : ℕ). get_or target k 0) (sym b)))
+      | inr b ↦ get_or-set_other w i j v 0 b ∙ h j (omega arith)
+    ]
+
+pub rest_long : (F : Ops) (L : IsField F) (m : ℕ) (rows : List (List ℕ)) (us : List Kind) (x y : List ℕ) → IsMatrix F m rows → length us ≡ m → length x ≡ m → length (part us (without F m rows x y)) ≡ criticals us
+rest_long F L m rows us x y a l lx =
+    let vd : IsVector F m (combination F m y rows) = combination-vector F L m y rows a in
+    part-long us (without F m rows x y) (plus_scaled-long F L (F.neg 1) x (combination F m y rows) (lx ∙ sym vd.long) ∙ (lx ∙ sym l))
+
+-- what is settled from zero clears
+pub module_settled : (F : Ops) (L : IsField F) (s next : Stage) → IsPaired F s next → (x y0 y : List ℕ) (n : ℕ) → y0 ≡ replicate n 0 → n ≡ length s.kinds → y ≡ settle F s.rows x s.pairs y0 → length y ≡ length s.kinds
+module_settled F L s next P x y0 y n e l h =
+    let g : y0 ≡ replicate (length s.kinds) 0 = e ∙ ap (λ (k : ℕ). replicate k 0) l in
+    ap (λ (z : List ℕ). length z) (h ∙ ap (settle F s.rows x s.pairs) g)
+    ∙ (settled-vector F L (length s.kinds) (length next.kinds) s.rows s.kinds next.kinds s.pairs P.matching x (replicate (length s.kinds) 0) (zeros-vector F L (length s.kinds))).long
+
+pub clearing_is : (F : Ops) (L : IsField F) (s next : Stage) → IsPaired F s next → (x y0 y w : List ℕ) (n : ℕ) → length x ≡ length next.kinds → AreElements F x → y0 ≡ replicate n 0 → n ≡ length s.kinds → y ≡ settle F s.rows x s.pairs y0
+    → w ≡ part next.kinds (without F (length next.kinds) s.rows x y) → IsCleared F (length s.kinds) (length next.kinds) s.rows s.kinds next.kinds x w y
+clearing_is F L s next P x y0 y w n lx el e l h g =
+    let z : List ℕ = settle F s.rows x s.pairs (replicate (length s.kinds) 0) in
+    let i : y ≡ z = h ∙ ap (settle F s.rows x s.pairs) (e ∙ ap (λ (k : ℕ). replicate k 0) l) in
+    subst (λ (v : List ℕ). IsCleared F (length s.kinds) (length next.kinds) s.rows s.kinds next.kinds x v y) (sym (g ∙ ap (λ (v : List ℕ). part next.kinds (without F (length next.kinds) s.rows x v)) i))
+    (subst (IsCleared F (length s.kinds) (length next.kinds) s.rows s.kinds next.kinds x (part next.kinds (without F (length next.kinds) s.rows x z))) (sym i)
+    (cleared F L (length s.kinds) (length next.kinds) s.rows s.kinds next.kinds s.pairs P.matching x (record { long = lx; elements = el })))
+
+none_upper : (ts : List Kind) (x : List ℕ) → HasNoUpper ts → length x ≡ length ts → ZeroOnUppers ts x
+none_upper [] [] h l = refl
+none_upper [] (x ∷ xs) h l = absurd (omega arith)
+none_upper (t ∷ ts) [] h l = absurd (omega arith)
+none_upper (Critical ∷ ts) (x ∷ xs) h l = none_upper ts xs h (omega arith)
+none_upper (Lower ∷ ts) (x ∷ xs) h l = none_upper ts xs h (omega arith)
+none_upper (Upper ∷ ts) (x ∷ xs) h l = absurd h
+
+plus_zeros_at : (F : Ops) (L : IsField F) (s m : ℕ) (x : List ℕ) → length x ≡ m → AreElements F x → plus_scaled F s x (replicate m 0) ≡ x
+plus_zeros_at F L s zero [] l el = refl
+plus_zeros_at F L s zero (x ∷ xs) l el = absurd (omega arith)
+plus_zeros_at F L s (suc m) [] l el = absurd (omega arith)
+plus_zeros_at F L s (suc m) (x ∷ xs) l el =
+    ap (λ (n : ℕ). n ∷ plus_scaled F s xs (replicate m 0)) (plus_none F L x s 0 refl el.0) ∙ ap (λ (r : List ℕ). x ∷ r) (plus_zeros_at F L s m xs (omega arith) el.1)
+
+pub first_cleared : (F : Ops) (L : IsField F) (ts : List Kind) (x y w : List ℕ) → HasNoUpper ts → length x ≡ length ts → AreElements F x → y ≡ replicate 0 0 → w ≡ part ts x → IsCleared F 0 (length ts) [] [] ts x w y
+first_cleared F L ts x y w h l el e g =
+    let same : without F (length ts) [] x [] ≡ x = plus_zeros_at F L (F.neg 1) (length ts) x l el in
+    subst (λ (v : List ℕ). IsCleared F 0 (length ts) [] [] ts x v y) (sym g)
+    (subst (IsCleared F 0 (length ts) [] [] ts x (part ts x)) (sym e)
+    (record {
+      vector = record { long = refl; elements = tt };
+      only = refl;
+      none = subst (ZeroOnUppers ts) (sym same) (none_upper ts x h l);
+      rest = ap (part ts) same;
+    }))
+
+-- ---- pairs
+
+pub pair_small : (F : Ops) (s next : Stage) → IsPaired F s next → (i : ℕ) (p d : Match) → i < length s.pairs → p ≡ get_or s.pairs i d → (p.lower < length s.kinds) × (p.upper < length next.kinds)
+pair_small F s next P i p d lt e =
+    let a : (get_or s.pairs i d).lower < length s.rows = (triangular_at s.rows s.pairs i d P.matching.triangular lt).0 in (
+      subst (λ (q : Match). q.lower < length s.kinds) (sym e) (subst (λ (n : ℕ). (get_or s.pairs i d).lower < n) P.matching.long a),
+      subst (λ (q : Match). q.upper < length next.kinds) (sym e) (all_at_match (λ q. q.upper < length next.kinds) s.pairs i d lt P.matching.uppers),
+    )
+  where
+    all_at_match : (Q : Match → Type 0) (ps : List Match) (i : ℕ) (d : Match) → i < length ps → AllByRecursion Q ps → Q (get_or ps i d)
+    all_at_match Q [] i d lt h = absurd (omega arith)
+    all_at_match Q (q ∷ ps) zero d lt h = h.0
+    all_at_match Q (q ∷ ps) (suc i) d lt h = all_at_match Q ps i d (omega arith) h.1

@@ -1,0 +1,11 @@
+use Rattle.std.proofs.Common.{◌≡◌, ◌+◌, map}
+use Rattle.face_poset.specs.Words.{upto}
+use Rattle.face_poset.specs.Poset.{facets_of}
+use Rattle.critical_complex.specs.Signed.{sign_element}
+use Rattle.critical_complex.proofs.columns.Columns.of_signed.Given as goal
+
+abbrev pub invariant-loop-index : goal.invariant-loop-index
+invariant-loop-index g l = record {
+  cells : l.cells ≡ map (facets_of (g.G.Graded.space l.graded) (l.dim + 1)) (upto l.index);
+  values : l.values ≡ map (λ cell. map (λ facet. sign_element g.F.Field.ops (g.G.Signed.negative l.graded (l.dim + 1) cell facet)) (facets_of (g.G.Graded.space l.graded) (l.dim + 1) cell)) (upto l.index);
+}

@@ -1,0 +1,18 @@
+use Rattle.std.proofs.Common.{refl, ap, subst}
+use Rattle.critical_complex.specs.Splits.{AreMatrices}
+use Rattle.critical_complex.proofs.Matching.{splitting}
+use Rattle.critical_complex.proofs.reduced.Reduced.new.Goals as goal
+
+pub list_matrices-requires : goal.list_matrices-requires
+list_matrices-requires g c =
+    splitting g.F.Field.ops g.met.F.Field.laws (g.G.Graded.space c.args.graded.now) (g.G.Signed.negative c.args.graded.now) c.args.field.now.pairs c.in_ok-stages.stages.items c.deref.result.now c.requires.valid c.in_ok-stages.ensures c.deref.ensures.value
+
+pub invariant_of-result : goal.invariant_of-result
+invariant_of-result g c = (
+  splitting g.F.Field.ops g.met.F.Field.laws (g.G.Graded.space c.args.graded.now) (g.G.Signed.negative c.args.graded.now) c.args.field.now.pairs c.in_ok-stages.stages.items c.in_ok-stages.stages.items c.requires.valid c.in_ok-stages.ensures refl,
+  subst (λ stages. AreMatrices g.F.Field.ops stages 4 c.in_ok-matrices.matrices.items) c.deref.ensures.value c.in_ok-matrices.ensures,
+)
+
+pub returns-clause-splitting : goal.returns-clause-splitting
+returns-clause-splitting g c =
+    splitting g.F.Field.ops g.met.F.Field.laws (g.G.Graded.space c.args.graded.now) (g.G.Signed.negative c.args.graded.now) c.args.field.now.pairs c.in_ok-stages.stages.items c.in_ok-stages.stages.items c.requires.valid c.in_ok-stages.ensures refl

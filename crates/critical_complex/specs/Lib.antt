@@ -1,0 +1,6 @@
+pub mod Columns
+pub mod Stages
+pub mod Signed
+pub mod Blanks
+pub mod Splits
+pub mod Units

@@ -1,0 +1,52 @@
+-- A signed set with a field of pairs, degree by degree; the last of the five degrees has no cells.
+use Rattle.std.specs.Prelude.{◌≡◌, ℕ, zero, suc, ◌<◌, List, [], Bool, length, slice_index_or}
+use Rattle.small_field.specs.Field.{Ops}
+use Rattle.field_matrix.specs.Rows.{Rows}
+use Rattle.face_poset.specs.declared.cells.Pair.{Pair}
+use Rattle.critical_laws.specs.declared.kind.Kind.{Kind}
+use Rattle.critical_laws.specs.Kinds.{criticals, HasNoUpper}
+use Rattle.critical_laws.specs.Solutions.{IsReducedBy}
+use Rattle.critical_complex.specs.Stages.{Stage, empty_stage, IsPaired}
+use Rattle.critical_complex.specs.Signed.{IsStageOf}
+
+abbrev pub stage_at : List Stage → (degree : ℕ) → Stage
+stage_at stages degree = slice_index_or stages degree empty_stage
+
+-- the kinds of the cells of a degree, and how many cells there are
+abbrev pub kinds_at : List Stage → (degree : ℕ) → List Kind
+kinds_at stages degree = (stage_at stages degree).kinds
+
+abbrev pub cells_at : List Stage → (degree : ℕ) → ℕ
+cells_at stages degree = length (kinds_at stages degree)
+
+-- the rows of the coboundary of a degree
+abbrev pub rows_at : List Stage → (degree : ℕ) → List (List ℕ)
+rows_at stages degree = (stage_at stages degree).rows
+
+-- the degrees are those of the signed set with these pairs
+pub record IsReductionOf (F : Ops) (space : List (List (List ℕ))) (negative : ℕ → ℕ → ℕ → Bool) (pairs : List Pair) (stages : List Stage) : Type 0 where
+  pub long : length stages ≡ 5
+  pub each : (degree : ℕ) → degree < 5 → IsStageOf F space negative pairs degree (stage_at stages degree)
+
+-- the pairs are those of a field between each two degrees
+pub record IsSplitting (F : Ops) (stages : List Stage) : Type 0 where
+  pub long : length stages ≡ 5
+  pub paired : (degree : ℕ) → degree < 4 → IsPaired F (stage_at stages degree) (stage_at stages (suc degree))
+  pub bottom : HasNoUpper (kinds_at stages 0)
+
+-- the degree before, which before the first one has no cells
+abbrev pub stage_before : List Stage → (degree : ℕ) → Stage
+stage_before stages zero = empty_stage
+stage_before stages (suc degree) = stage_at stages degree
+
+-- the coboundaries of extensions
+pub record IsMatrixOf (F : Ops) (s next : Stage) (m : Rows) : Type 0 where
+  pub cols : m.cols ≡ criticals next.kinds
+  pub reduced : IsReducedBy F (length s.kinds) (length next.kinds) s.rows s.kinds next.kinds m.rows
+
+abbrev pub no_rows : Rows
+no_rows = record { cols = 0; rows = [] }
+
+pub record AreMatrices (F : Ops) (stages : List Stage) (count : ℕ) (matrices : List Rows) : Type 0 where
+  pub long : length matrices ≡ count
+  pub each : (degree : ℕ) → degree < count → IsMatrixOf F (stage_at stages degree) (stage_at stages (suc degree)) (slice_index_or matrices degree no_rows)

@@ -1,0 +1,151 @@
+// The reduction of a signed set to the critical cells of a field of pairs.
+ghost use Rattle.std.specs.Prelude.{◌≡◌, ◌+◌, ◌<◌, ◌≤◌, length, slice_index_or, IfOk};
+ghost use Rattle.vector_field.specs.Pairs.{IsFieldOf};
+ghost use Rattle.critical_laws.specs.Kinds.{criticals};
+ghost use Rattle.critical_laws.specs.Solutions.{IsCleared, IsExtension, IsReducedBy};
+ghost use Rattle.critical_complex.specs.Stages.{critical_from, IsPaired};
+ghost use Rattle.critical_complex.specs.Units.{IsUnitOf, no_match};
+ghost use Rattle.critical_complex.specs.Splits.{stage_at, stage_before, cells_at, kinds_at, rows_at, AreMatrices, IsReductionOf, IsSplitting};
+
+use crate::cleared::Cleared;
+use crate::coboundary::coboundary_matrix;
+use crate::stage::Stage;
+use crate::unit::Unit;
+use face_poset::Signed;
+use field_matrix::{Matrix, Row};
+use order_complex::Cochain;
+use small_field::Field;
+use std::alloc::{AllocError, Global};
+use std::marker::Model;
+use vector_field::PairList;
+
+/// A signed set with a field of pairs, reduced to the critical cells. Contracts see, for each degree, the
+/// rows of the coboundary, the kinds of the cells and the pairs. Cells are numbered from 1, and places from 0.
+#[derive(Drop)]
+pub struct Reduced<F: Field> {
+    stages: Vec<Stage<F>>,
+    matrices: Vec<Matrix<F>>,
+}
+
+impl<F: Field> Model for Reduced<F> {
+    ghost use Rattle.std.specs.Prelude.{List};
+    ghost use Rattle.critical_complex.specs.Stages.{Stage};
+    ghost use Rattle.critical_complex.specs.Splits.{AreMatrices, IsSplitting};
+
+    ghost Value = { List Stage };
+
+    ghost view = { λ s. s.stages.items };
+
+    ghost invariant = { λ s. IsSplitting F.ops s.stages.items × AreMatrices F.ops s.stages.items 4 s.matrices.items };
+}
+
+/// What is kept of each degree.
+fn list_stages<F: Field, G: Signed>(
+    alloc: Global,
+    graded: &G,
+    field: &PairList,
+) -> Result<Vec<Stage<F>>, AllocError>
+    requires { IsFieldOf (G.space graded.now) field.now }
+    ensures { IfOk result (λ stages. IsReductionOf F.ops (G.space graded.now) (G.negative graded.now) field.now.pairs stages.items) }
+{
+    let mut stages = Vec::new(alloc);
+    for dim in 0..5 {
+        stages.push(Stage::of_signed(alloc, graded, field, dim)?)?;
+    }
+    Ok(stages)
+}
+
+/// The coboundaries of the extensions, for each degree.
+fn list_matrices<F: Field>(alloc: Global, stages: &[Stage<F>]) -> Result<Vec<Matrix<F>>, AllocError>
+    requires { IsSplitting F.ops stages.now }
+    ensures { IfOk result (λ matrices. AreMatrices F.ops stages.now 4 matrices.items) }
+{
+    let mut matrices = Vec::new(alloc);
+    for index in 0..4 {
+        let matrix = coboundary_matrix(alloc, &stages[index], &stages[index + 1])?;
+        matrices.push(matrix)?;
+    }
+    Ok(matrices)
+}
+
+impl<F: Field> Reduced<F> {
+    /// The reduction of a signed set to the critical cells of a field of pairs on it.
+    pub fn new<G: Signed>(
+        alloc: Global,
+        graded: &G,
+        field: &PairList,
+    ) -> Result<Reduced<F>, AllocError>
+        requires { IsFieldOf (G.space graded.now) field.now }
+        ensures reduction { IfOk result (IsReductionOf F.ops (G.space graded.now) (G.negative graded.now) field.now.pairs) }
+        ensures splitting { IfOk result (IsSplitting F.ops) }
+    {
+        let stages = list_stages(alloc, graded, field)?;
+        let matrices = list_matrices(alloc, &stages)?;
+        Ok(Reduced { stages, matrices })
+    }
+
+    /// The critical cells of a degree, increasing.
+    pub fn critical(&self, dim: u8) -> &[u32]
+        requires { dim ≤ 3 }
+        ensures critical { result.now ≡ critical_from 1 (kinds_at self.now dim) }
+        ensures splitting { IsSplitting F.ops self.now }
+    {
+        self.stages[dim as usize].critical()
+    }
+
+    /// A row for each critical cell of a degree, a column for each of one more: the coboundary, at the
+    /// column's cell, of the extension that is 1 at the row's cell and 0 at the other critical cells.
+    pub fn coboundary_rows(&self, dim: u8) -> &Matrix<F>
+        requires { dim ≤ 3 }
+        ensures cols { result.now.cols ≡ criticals (kinds_at self.now (dim + 1)) }
+        ensures rows { IsReducedBy F.ops (cells_at self.now dim) (cells_at self.now (dim + 1)) (rows_at self.now dim) (kinds_at self.now dim) (kinds_at self.now (dim + 1)) result.now.rows }
+        ensures splitting { IsSplitting F.ops self.now }
+    {
+        &self.matrices[dim as usize]
+    }
+
+    /// The one cochain that has these values at the critical cells and is 0 on uppers, and whose coboundary
+    /// is 0 on uppers of one degree more.
+    pub fn extend(&self, alloc: Global, dim: u8, w: &Row<F>) -> Result<Cochain<F>, AllocError>
+        requires degree { dim ≤ 3 }
+        requires values { length w.now ≡ criticals (kinds_at self.now dim) }
+        ensures { IfOk result (IsExtension F.ops (cells_at self.now dim) (cells_at self.now (dim + 1)) (rows_at self.now dim) (kinds_at self.now dim) (kinds_at self.now (dim + 1)) w.now) }
+    {
+        let stages: &[Stage<F>] = &self.stages;
+        let stage = &stages[dim as usize];
+        stage.extension(alloc, &stages[dim as usize + 1], w)
+    }
+
+    /// Clears a cochain: the one cochain of one degree less, on its lowers, whose coboundary is the cochain on
+    /// uppers, and what remains on the critical cells when the coboundary is taken away.
+    pub fn clear(&self, alloc: Global, dim: u8, x: &Cochain<F>) -> Result<Cleared<F>, AllocError>
+        requires degree { dim ≤ 3 }
+        requires cochain { length x.now ≡ cells_at self.now dim }
+        ensures { IfOk result (λ r. IsCleared F.ops (length (stage_before self.now dim).kinds) (cells_at self.now dim) (stage_before self.now dim).rows (stage_before self.now dim).kinds (kinds_at self.now dim) x.now r.w r.y) }
+    {
+        let stages: &[Stage<F>] = &self.stages;
+        if dim == 0 {
+            return stages[0].clearing_first(alloc, x);
+        }
+        stages[dim as usize - 1].clearing(alloc, &stages[dim as usize], x)
+    }
+
+    /// How many uppers of one degree more there are, each with a lower of the degree.
+    pub fn units(&self, dim: u8) -> u32
+        requires { dim ≤ 3 }
+        ensures { result ≡ length (stage_at self.now dim).pairs }
+    {
+        self.stages[dim as usize].units()
+    }
+
+    /// A unit: the lower of a pair with the value 1, and its upper with the value 1. The coboundary of its left
+    /// side is not zero on its own right side, and zero on the right side of each smaller index.
+    pub fn unit(&self, alloc: Global, dim: u8, index: u32) -> Result<Unit, AllocError>
+        requires degree { dim ≤ 3 }
+        requires index { index < length (stage_at self.now dim).pairs }
+        ensures { IfOk result (IsUnitOf (slice_index_or (stage_at self.now dim).pairs index no_match)) }
+    {
+        let stages: &[Stage<F>] = &self.stages;
+        stages[dim as usize].unit(alloc, &stages[dim as usize + 1], index)
+    }
+}

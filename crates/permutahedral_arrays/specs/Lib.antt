@@ -1,0 +1,2 @@
+pub mod Permutahedra
+pub mod Places
