@@ -9,14 +9,15 @@ use Rattle.face_poset.specs.declared.fault.SpaceFault.TheVariants as in_space
 use Rattle.hap_outside.specs.Causes.{Rose, HasCause}
 use Rattle.hap_outside.specs.Stores.{Store, bytes_under}
 use Rattle.hap_outside.specs.Writes.{Writes}
-use Rattle.hap_words.specs.Asked.{Asked}
+use Rattle.hap_words.specs.Asked.{Asked, make}
 use Rattle.hap_cli.specs.declared.outcome.Outcome.{Outcome}
 use Rattle.hap_cli.specs.declared.outcome.Outcome.TheVariants.{Done, Usage, Refused, ReadFault, WriteFault, Memory}
 use Rattle.hap_cli.specs.declared.refusal.Refusal.{Refusal}
 use Rattle.hap_cli.specs.declared.refusal.Refusal.TheVariants.{TooLong, Text, Space, Irregular, Chains}
-use Rattle.hap_cli.specs.Input.{input_name, OnNamed, OnInput}
+use Rattle.hap_cli.specs.Input.{input_name, told_store, OnNamed, OnInput}
+use Rattle.hap_cli.specs.Spaces.{made, fault_in}
 use Rattle.hap_cli.specs.Refusals.{refusal, refusal_status, space_status}
-use Rattle.hap_cli.specs.Outcomes.{status_of, status_for, Answers, Tells, IsEnd, IsStopped, written_outcome}
+use Rattle.hap_cli.specs.Outcomes.{status_of, status_for, Answers, Fails, Tells, IsEnd, IsStopped, written_outcome}
 
 -- what follows of the input under a name
 pub on_named : (name : Option (List ℕ)) (store : Option Store) (P Q : List ℕ → Type 0) → ((bytes : List ℕ) → P bytes → Q bytes) → OnNamed name store P → OnNamed name store Q
@@ -29,33 +30,53 @@ on_named name (Some store) P Q f h = of_some (store name) h
 
 -- where a command stops at a stage, its run ends so
 pub stopped_end : (asked : Asked) (store : Option Store) (read write : Type 0) (written : Option (List ℕ)) (stage : List ℕ → Result (List (List (List ℕ))) Refusal) (outcome : Outcome)
-    → ((bytes : List ℕ) (cause : Refusal) → stage bytes ≡ Err cause → refusal asked bytes ≡ Some cause) → IsStopped (input_name asked) store read stage outcome → Keeps written written
+    → ((bytes : List ℕ) (cause : Refusal) → stage bytes ≡ Err cause → refusal asked bytes ≡ Some cause) → IsStopped (input_name asked) (told_store asked store) read stage outcome → Keeps written written
     → IsEnd asked store read write written written outcome
-stopped_end asked store read write written stage (Refused cause) f h k = (on_named (input_name asked) store (λ told. stage told ≡ Err cause) _ (λ bytes e. f bytes cause e) h, k)
+stopped_end asked store read write written stage (Refused cause) f h k = (on_named (input_name asked) (told_store asked store) (λ told. stage told ≡ Err cause) _ (λ bytes e. f bytes cause e) h, k)
 stopped_end asked store read write written stage ReadFault f h k = (h, k)
 stopped_end asked store read write written stage Memory f h k = k
 stopped_end asked store read write written stage Done f h k = absurd h
 stopped_end asked store read write written stage Usage f h k = h
 stopped_end asked store read write written stage WriteFault f h k = absurd h
 
+-- a command that reads nothing ends so whatever the source has
+pub make_end : (size : ℕ) (modulus : Option ℕ) (store : Option Store) (read write : Type 0) (old new : Option (List ℕ)) (outcome : Outcome)
+    → IsEnd (make size modulus) None ⊥ write old new outcome → IsEnd (make size modulus) store read write old new outcome
+make_end size modulus store read write old new Done h = h
+make_end size modulus store read write old new Usage h = h
+make_end size modulus store read write old new (Refused cause) h = h
+make_end size modulus store read write old new ReadFault h = absurd h.0
+make_end size modulus store read write old new WriteFault h = h
+make_end size modulus store read write old new Memory h = h
+
+-- where its space is refused, it ends so
+pub made_end : (size : ℕ) (modulus : Option ℕ) (write : Type 0) (written : Option (List ℕ)) (outcome : Outcome) → Fails (made size modulus) outcome → Keeps written written
+    → IsEnd (make size modulus) None ⊥ write written written outcome
+made_end size modulus write written (Refused cause) h k = (ap fault_in h, k)
+made_end size modulus write written Memory h k = k
+made_end size modulus write written Done h k = absurd h
+made_end size modulus write written Usage h k = h
+made_end size modulus write written ReadFault h k = absurd h
+made_end size modulus write written WriteFault h k = absurd h
+
 -- a prefix of an answer was written
 pub wrote_front : (asked : Asked) (store : Option Store) (old new : Option (List ℕ)) (stage : List ℕ → Result (List (List (List ℕ))) Refusal) (space : List (List (List ℕ))) (text : List ℕ)
-    → OnNamed (input_name asked) store (λ told. stage told ≡ Ok space) → ((bytes : List ℕ) → stage bytes ≡ Ok space → Answers asked bytes text)
+    → OnNamed (input_name asked) (told_store asked store) (λ told. stage told ≡ Ok space) → ((bytes : List ℕ) → stage bytes ≡ Ok space → Answers asked bytes text)
     → ((k : ℕ) × (k ≤ length text) × Appends old new (take k text))
     → OnInput asked store (λ bytes. (text : List ℕ) × Answers asked bytes text × (k : ℕ) × (k ≤ length text) × Appends old new (take k text))
 wrote_front asked store old new stage space text h f w =
-    on_named (input_name asked) store (λ told. stage told ≡ Ok space) _ (λ bytes e. (text, f bytes e, w.0, w.1, w.2)) h
+    on_named (input_name asked) (told_store asked store) (λ told. stage told ≡ Ok space) _ (λ bytes e. (text, f bytes e, w.0, w.1, w.2)) h
 
 -- an answer was written whole
 pub wrote_all : (asked : Asked) (store : Option Store) (old new : Option (List ℕ)) (stage : List ℕ → Result (List (List (List ℕ))) Refusal) (space : List (List (List ℕ))) (text : List ℕ)
-    → OnNamed (input_name asked) store (λ told. stage told ≡ Ok space) → ((bytes : List ℕ) → stage bytes ≡ Ok space → Answers asked bytes text) → Appends old new text
+    → OnNamed (input_name asked) (told_store asked store) (λ told. stage told ≡ Ok space) → ((bytes : List ℕ) → stage bytes ≡ Ok space → Answers asked bytes text) → Appends old new text
     → OnInput asked store (λ bytes. (text : List ℕ) × Answers asked bytes text × Appends old new text)
 wrote_all asked store old new stage space text h f w =
-    on_named (input_name asked) store (λ told. stage told ≡ Ok space) _ (λ bytes e. (text, f bytes e, w)) h
+    on_named (input_name asked) (told_store asked store) (λ told. stage told ≡ Ok space) _ (λ bytes e. (text, f bytes e, w)) h
 
 -- a call that writes an answer ends the run
 pub wrote_end : {T E : Type 0} (asked : Asked) (store : Option Store) (read : Type 0) (old new : Option (List ℕ)) (before now : ℕ) (stage : List ℕ → Result (List (List (List ℕ))) Refusal)
-    (space : List (List (List ℕ))) (text : List ℕ) (r : Result T E) → OnNamed (input_name asked) store (λ told. stage told ≡ Ok space) → ((bytes : List ℕ) → stage bytes ≡ Ok space → Answers asked bytes text)
+    (space : List (List (List ℕ))) (text : List ℕ) (r : Result T E) → OnNamed (input_name asked) (told_store asked store) (λ told. stage told ≡ Ok space) → ((bytes : List ℕ) → stage bytes ≡ Ok space → Answers asked bytes text)
     → Writes old new text r → HasCause before now r → IsEnd asked store read (Rose before now) old new (written_outcome r)
 wrote_end asked store read old new before now stage space text (Ok x) h f w c = wrote_all asked store old new stage space text h f w.whole
 wrote_end asked store read old new before now stage space text (Err e) h f w c = (c.failed, wrote_front asked store old new stage space text h f w.part)
@@ -75,37 +96,40 @@ asked_end o asked P N e h = subst (λ o. MatchOption o N P) (sym e) h
 -- where nothing failed outside, the status is that of the refusal, or memory was wanting
 pub exact_end : (o : Option Asked) (store : Option Store) (read write : Type 0) (old new : Option (List ℕ)) (outcome : Outcome) (status : ℕ) → status ≡ status_of outcome
     → MatchOption o ((outcome ≡ Usage) ⊎ (outcome ≡ Memory)) (λ asked. IsEnd asked store read write old new outcome)
-    → IfSome o (λ asked. IfSome (bytes_under store (input_name asked)) (λ bytes. (read → ⊥) → (write → ⊥) → (status ≡ status_for (refusal asked bytes)) ⊎ (status ≡ 9)))
+    → IfSome o (λ asked. IfSome (bytes_under (told_store asked store) (input_name asked)) (λ bytes. (read → ⊥) → (write → ⊥) → (status ≡ status_for (refusal asked bytes)) ⊎ (status ≡ 9)))
 exact_end None store read write old new outcome status e h = tt
-exact_end (Some asked) None read write old new outcome status e h = tt
-exact_end (Some asked) (Some store) read write old new outcome status e h = at outcome e h
+exact_end (Some asked) store read write old new outcome status e h = at outcome e h
   where
     Told : List ℕ → Type 0
     Told bytes = (read → ⊥) → (write → ⊥) → (status ≡ status_for (refusal asked bytes)) ⊎ (status ≡ 9)
 
-    done : (b : Option (List ℕ)) → status ≡ 0 → IsSomeAnd b (λ bytes. (text : List ℕ) × Answers asked bytes text × Appends old new text) → IfSome b Told
+    done : (t : Option Store) → status ≡ 0 → OnNamed (input_name asked) t (λ bytes. (text : List ℕ) × Answers asked bytes text × Appends old new text) → IfSome (bytes_under t (input_name asked)) Told
     done None e h = tt
-    done (Some bytes) e h = λ r w. inl (e ∙ ap status_for (sym h.1.0))
+    done (Some s) e h = of_some (s (input_name asked)) h
+      where
+        of_some : (b : Option (List ℕ)) → IsSomeAnd b (λ bytes. (text : List ℕ) × Answers asked bytes text × Appends old new text) → IfSome b Told
+        of_some None h = tt
+        of_some (Some bytes) h = λ r w. inl (e ∙ ap status_for (sym h.1.0))
 
-    refused : (b : Option (List ℕ)) (cause : Refusal) → status ≡ refusal_status cause → IsSomeAnd b (λ bytes. refusal asked bytes ≡ Some cause) → IfSome b Told
+    refused : (t : Option Store) (cause : Refusal) → status ≡ refusal_status cause → OnNamed (input_name asked) t (λ bytes. refusal asked bytes ≡ Some cause) → IfSome (bytes_under t (input_name asked)) Told
     refused None cause e h = tt
-    refused (Some bytes) cause e h = λ r w. inl (e ∙ ap status_for (sym h))
+    refused (Some s) cause e h = of_some (s (input_name asked)) h
+      where
+        of_some : (b : Option (List ℕ)) → IsSomeAnd b (λ bytes. refusal asked bytes ≡ Some cause) → IfSome b Told
+        of_some None h = tt
+        of_some (Some bytes) h = λ r w. inl (e ∙ ap status_for (sym h))
 
-    memory : (b : Option (List ℕ)) → status ≡ 9 → IfSome b Told
-    memory None e = tt
-    memory (Some bytes) e = λ r w. inr e
+    always : (b : Option (List ℕ)) → ((bytes : List ℕ) → Told bytes) → IfSome b Told
+    always None f = tt
+    always (Some bytes) f = f bytes
 
-    untold : (b : Option (List ℕ)) → ((read → ⊥) → (write → ⊥) → ⊥) → IfSome b Told
-    untold None f = tt
-    untold (Some bytes) f = λ r w. absurd (f r w)
-
-    at : (outcome : Outcome) → status ≡ status_of outcome → IsEnd asked (Some store) read write old new outcome → IfSome (store (input_name asked)) Told
-    at Done e h = done (store (input_name asked)) e h
+    at : (outcome : Outcome) → status ≡ status_of outcome → IsEnd asked store read write old new outcome → IfSome (bytes_under (told_store asked store) (input_name asked)) Told
+    at Done e h = done (told_store asked store) e h
     at Usage e h = absurd h
-    at (Refused cause) e h = refused (store (input_name asked)) cause e h.0
-    at ReadFault e h = untold (store (input_name asked)) (λ r w. r h.0)
-    at WriteFault e h = untold (store (input_name asked)) (λ r w. w h.0)
-    at Memory e h = memory (store (input_name asked)) e
+    at (Refused cause) e h = refused (told_store asked store) cause e h.0
+    at ReadFault e h = always (bytes_under (told_store asked store) (input_name asked)) (λ bytes r w. absurd (r h.0))
+    at WriteFault e h = always (bytes_under (told_store asked store) (input_name asked)) (λ bytes r w. absurd (w h.0))
+    at Memory e h = always (bytes_under (told_store asked store) (input_name asked)) (λ bytes r w. inr e)
 
 -- a refusal is told by 3, 4 or 5
 refused_status : (cause : Refusal) → (refusal_status cause ≡ 3) ⊎ ((refusal_status cause ≡ 4) ⊎ (refusal_status cause ≡ 5))

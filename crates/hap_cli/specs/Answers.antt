@@ -1,13 +1,18 @@
 -- What a command writes.
-use Rattle.std.specs.Prelude.{◌≡◌, ℕ, List, ◌++◌, codes, decimal}
+use Rattle.std.specs.Prelude.{◌≡◌, ℕ, List, ◌++◌, codes, decimal, length}
 use Rattle.std.specs.Fmt.{signed_decimal}
 use Rattle.std.specs.declared.result.Result.TheVariants.{Ok}
+use Rattle.std.specs.declared.option.Option.{Option}
+use Rattle.std.specs.declared.option.Option.TheVariants.{Some, None}
 use Rattle.face_poset.specs.Poset.{count, euler_of}
+use Rattle.face_poset.specs.Text.{boundary_text}
+use Rattle.order_complex.specs.Chains.{chains_of}
+use Rattle.array_readers.specs.Torus.{torus_of}
 use Rattle.regular_check.specs.Components.{component_count}
 use Rattle.small_field.specs.Prime.{mod_ops}
 use Rattle.plain_betti.specs.declared.numbers.Betti.{Betti}
 use Rattle.plain_betti.specs.Numbers.{AreBetti}
-use Rattle.hap_words.specs.Asked.{Asked, cells, check, betti}
+use Rattle.hap_words.specs.Asked.{Asked, cells, check, betti, make}
 use Rattle.hap_cli.specs.Spaces.{reading, regular_reading}
 
 -- how many cells each dimension has, and their alternating sum
@@ -26,10 +31,28 @@ abbrev pub betti_text : Betti → List ℕ
 betti_text b =
     codes "betti " ++ (decimal b.zero ++ (codes " " ++ (decimal b.one ++ (codes " " ++ (decimal b.two ++ (codes " " ++ (decimal b.three ++ codes "\n")))))))
 
+-- what is written of a 3-torus: its size, its cells, how many chains of each degree its order complex has, and the Betti numbers
+abbrev pub torus_text : ℕ → List ℕ
+torus_text size = codes "torus " ++ (decimal size ++ codes "\n")
+
+abbrev pub chains_text : List (List (List ℕ)) → List ℕ
+chains_text space =
+    codes "chains " ++ (decimal (length (chains_of space 0)) ++ (codes " " ++ (decimal (length (chains_of space 1)) ++ (codes " "
+    ++ (decimal (length (chains_of space 2)) ++ (codes " " ++ (decimal (length (chains_of space 3)) ++ codes "\n")))))))
+
+abbrev pub summary_text : (size : ℕ) → List (List (List ℕ)) → Betti → List ℕ
+summary_text size space numbers = (torus_text size ++ cells_text space) ++ (chains_text space ++ betti_text numbers)
+
+-- the boundary text of the 3-torus, or with a modulus its summary
+abbrev pub IsMade : (size : ℕ) → (modulus : Option ℕ) → List ℕ → Type 0
+IsMade size None text = text ≡ boundary_text (torus_of size)
+IsMade size (Some p) text = (numbers : Betti) × AreBetti (mod_ops p) (torus_of size) numbers × (text ≡ summary_text size (torus_of size) numbers)
+
 -- the text is an answer of the command on these bytes
 abbrev pub IsAnswer : Asked → List ℕ → List ℕ → Type 0
 IsAnswer (cells s) bytes text = (space : List (List (List ℕ))) × (reading bytes ≡ Ok space) × (text ≡ cells_text space)
 IsAnswer (check s) bytes text = (space : List (List (List ℕ))) × (regular_reading bytes ≡ Ok space) × (text ≡ check_text space)
 IsAnswer (betti s p) bytes text =
     (space : List (List (List ℕ))) × (regular_reading bytes ≡ Ok space) × (numbers : Betti) × AreBetti (mod_ops p) space numbers × (text ≡ betti_text numbers)
+IsAnswer (make n p) bytes text = IsMade n p text
 IsAnswer other bytes text = ⊥

@@ -1,5 +1,5 @@
 -- What a command reads.
-use Rattle.std.specs.Prelude.{ℕ, List, ⊤, IsSomeAnd}
+use Rattle.std.specs.Prelude.{ℕ, List, [], ⊤, Bool, true, false, IsSomeAnd}
 use Rattle.std.specs.declared.option.Option.{Option}
 use Rattle.std.specs.declared.option.Option.TheVariants.{Some, None}
 use Rattle.hap_outside.specs.Stores.{Store}
@@ -23,6 +23,20 @@ abbrev pub OnNamed : Option (List ℕ) → Option Store → (List ℕ → Type 0
 OnNamed name None P = ⊤
 OnNamed name (Some store) P = IsSomeAnd (store name) P
 
+-- a command that makes its space reads nothing: to it every input is empty
+abbrev pub told_store : Asked → Option Store → Option Store
+told_store (make n p) store = Some (λ name. Some [])
+told_store other store = store
+
 -- the same of the input of a command
 abbrev pub OnInput : Asked → Option Store → (List ℕ → Type 0) → Type 0
-OnInput asked store P = OnNamed (input_name asked) store P
+OnInput asked store P = OnNamed (input_name asked) (told_store asked store) P
+
+-- the command reads an input
+abbrev pub has_input : Asked → Bool
+has_input (make n p) = false
+has_input other = true
+
+abbrev pub reads_input : Option Asked → Bool
+reads_input None = false
+reads_input (Some asked) = has_input asked

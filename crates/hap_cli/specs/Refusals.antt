@@ -10,16 +10,17 @@ use Rattle.face_poset.specs.declared.fault.SpaceFault.{SpaceFault}
 use Rattle.face_poset.specs.declared.fault.SpaceFault.TheVariants as in_space
 use Rattle.regular_check.specs.declared.fault.RegularFault.{RegularFault}
 use Rattle.regular_check.specs.declared.fault.RegularFault.TheVariants as rule
-use Rattle.hap_words.specs.Asked.{Asked, cells, check, betti}
+use Rattle.hap_words.specs.Asked.{Asked, cells, check, betti, make}
 use Rattle.hap_cli.specs.declared.refusal.Refusal.{Refusal}
 use Rattle.hap_cli.specs.declared.refusal.Refusal.TheVariants.{TooLong, Text, Space, Irregular, Chains}
-use Rattle.hap_cli.specs.Spaces.{fault_in, reading, regular_reading, few_reading}
+use Rattle.hap_cli.specs.Spaces.{fault_in, reading, regular_reading, few_reading, made}
 
 -- the first condition that holds, in the order of the stages
 abbrev pub refusal : Asked → List ℕ → Option Refusal
 refusal (cells s) bytes = fault_in (reading bytes)
 refusal (check s) bytes = fault_in (regular_reading bytes)
 refusal (betti s p) bytes = fault_in (few_reading bytes)
+refusal (make n p) bytes = fault_in (made n p)
 refusal other bytes = None
 
 abbrev pub space_status : SpaceFault → ℕ

@@ -12,6 +12,7 @@ use Rattle.face_poset.specs.Reader.{space_of}
 use Rattle.regular_check.specs.declared.fault.RegularFault.{RegularFault}
 use Rattle.regular_check.specs.Rules.{first_fault}
 use Rattle.order_complex.specs.Chains.{chain_count}
+use Rattle.array_readers.specs.Torus.{torus_of}
 use Rattle.hap_cli.specs.declared.refusal.Refusal.{Refusal}
 use Rattle.hap_cli.specs.declared.refusal.Refusal.TheVariants.{TooLong, Text, Space, Irregular, Chains}
 
@@ -58,3 +59,8 @@ only_few limit (Err refusal) = Err refusal
 
 abbrev pub few_reading : List ℕ → Result (List (List (List ℕ))) Refusal
 few_reading bytes = only_few 2000 (regular_reading bytes)
+
+-- the 3-torus of a size; with a modulus, its Betti numbers are wanted
+abbrev pub made : (size : ℕ) → (modulus : Option ℕ) → Result (List (List (List ℕ))) Refusal
+made size None = Ok (torus_of size)
+made size (Some p) = only_few 2000 (Ok (torus_of size))

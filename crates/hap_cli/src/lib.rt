@@ -7,6 +7,7 @@
 mod betti;
 mod cells;
 mod input;
+mod making;
 mod outcome;
 mod refusal;
 mod running;

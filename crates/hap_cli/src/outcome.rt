@@ -2,7 +2,7 @@
 ghost use Rattle.std.specs.Prelude.{◌≡◌};
 ghost use Rattle.hap_outside.specs.Causes.{Rose, HasCause};
 ghost use Rattle.hap_outside.specs.Writes.{Writes};
-ghost use Rattle.hap_cli.specs.Outcomes.{status_of, line_of, usage_line, Tells};
+ghost use Rattle.hap_cli.specs.Outcomes.{status_of, line_of, usage_line, Tells, written_outcome};
 
 use crate::refusal::{Refusal, refusal_code, write_refusal};
 use face_poset::SpaceFault;
@@ -81,6 +81,16 @@ impl From<ChainFault> for Outcome {
             ChainFault::TooManyChains(count) => Outcome::Refused(Refusal::Chains(count)),
             ChainFault::Memory => Outcome::Memory,
         }
+    }
+}
+
+/// How the run ends after its answer was written.
+pub fn written(answer: Result<(), Failed>) -> Outcome
+    ensures { result ≡ written_outcome answer }
+{
+    match answer {
+        Ok(()) => Outcome::Done,
+        Err(Failed) => Outcome::WriteFault,
     }
 }
 

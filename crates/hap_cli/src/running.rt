@@ -4,33 +4,24 @@ ghost use Rattle.std.specs.Io.KnownBytes.{IsAtEnd};
 ghost use Rattle.hap_outside.specs.Causes.{Rose};
 ghost use Rattle.hap_outside.specs.Stores.{bytes_under};
 ghost use Rattle.hap_words.specs.Asked.{cells, check, betti, source_of, asked_of};
-ghost use Rattle.hap_words.specs.Moduli.{is_modulus, has_modulus};
+ghost use Rattle.hap_words.specs.Ranges.{is_modulus, is_in_range};
 ghost use Rattle.hap_words.specs.Table.{is_built, read as asked_by};
 ghost use Rattle.hap_cli.specs.declared.outcome.Outcome.{Outcome as AnOutcome};
-ghost use Rattle.hap_cli.specs.Input.{input_name};
+ghost use Rattle.hap_cli.specs.Input.{input_name, told_store, has_input, reads_input};
 ghost use Rattle.hap_cli.specs.Refusals.{refusal};
 ghost use Rattle.hap_cli.specs.Counting.{Counts, CountsIf};
-ghost use Rattle.hap_cli.specs.Outcomes.{status_of, line_of, status_for, Tells, IsEnd, written_outcome};
+ghost use Rattle.hap_cli.specs.Outcomes.{status_of, line_of, status_for, Tells, IsEnd};
 
 use crate::betti::{few_betti, write_betti};
 use crate::cells::{write_cells, write_check};
-use crate::outcome::{Outcome, end_with};
+use crate::making::run_make;
+use crate::outcome::{Outcome, end_with, written};
 use crate::space::{read_space, regular_space};
-use hap_outside::{Failed, Sink, Source, Steps};
+use hap_outside::{Sink, Source, Steps};
 use hap_words::{Command, Input, WordsFault, read};
 use std::alloc::Global;
 use std::mem::drop;
 use std::sync::ledger::Ledger;
-
-// How the run ends after its answer was written.
-fn written(answer: Result<(), Failed>) -> Outcome
-    ensures { result ≡ written_outcome answer }
-{
-    match answer {
-        Ok(()) => Outcome::Done,
-        Err(Failed) => Outcome::WriteFault,
-    }
-}
 
 // Reads a space and writes how many cells it has.
 fn run_cells<S: Source, K: Sink>(
@@ -131,13 +122,14 @@ fn perform<S: Source, K: Sink, L: Ledger>(
 ) -> Outcome
     requires begun { S.begun source.old ≡ false }
     requires built { is_built (asked_of command.now) ≡ true }
-    requires modulus { has_modulus (asked_of command.now) ≡ true }
+    requires ranges { is_in_range (asked_of command.now) ≡ true }
     ensures cause { IsEnd (asked_of command.now) (S.store source.old)
         (Rose (S.faults source.old) (S.faults source.new)) (Rose (K.faults out.old) (K.faults out.new))
         (K.written out.old) (K.written out.new) result }
     ensures read_told { S.faults source.old < S.faults source.new → result ≡ Outcome.ReadFault }
     ensures write_told { K.faults out.old < K.faults out.new → result ≡ Outcome.WriteFault }
-    ensures end { result ≡ Outcome.Done → IsAtEnd (S.left source.new) }
+    ensures untouched { has_input (asked_of command.now) ≡ false → source.new ≡ source.old }
+    ensures end { result ≡ Outcome.Done → has_input (asked_of command.now) ≡ true → IsAtEnd (S.left source.new) }
     ensures nothing { result ≢ Outcome.Done → result ≢ Outcome.WriteFault → out.new ≡ out.old }
     ensures steps { Counts (asked_of command.now) (S.store source.old) steps.old steps.new }
 {
@@ -145,6 +137,7 @@ fn perform<S: Source, K: Sink, L: Ledger>(
         Command::Cells { input } => run_cells(alloc, input, source, out),
         Command::Check { input } => run_check(alloc, input, source, out),
         Command::Betti { input, modulus } => run_betti(alloc, input, *modulus, source, out, steps),
+        Command::Make { size, modulus } => run_make(alloc, *size, *modulus, out, steps),
         _ => Outcome::Usage,
     }
 }
@@ -163,10 +156,11 @@ fn perform_words<S: Source, K: Sink, L: Ledger>(
         IsEnd asked (S.store source.old)
         (Rose (S.faults source.old) (S.faults source.new)) (Rose (K.faults out.old) (K.faults out.new))
         (K.written out.old) (K.written out.new) result) }
-    ensures untouched { IsNone (asked_by (map string_bytes words.now)) → source.new ≡ source.old }
+    ensures untouched { reads_input (asked_by (map string_bytes words.now)) ≡ false → source.new ≡ source.old }
     ensures read_told { S.faults source.old < S.faults source.new → result ≡ Outcome.ReadFault }
     ensures write_told { K.faults out.old < K.faults out.new → result ≡ Outcome.WriteFault }
-    ensures end { result ≡ Outcome.Done → IsAtEnd (S.left source.new) }
+    ensures end { result ≡ Outcome.Done → reads_input (asked_by (map string_bytes words.now)) ≡ true
+        → IsAtEnd (S.left source.new) }
     ensures nothing { result ≢ Outcome.Done → result ≢ Outcome.WriteFault → out.new ≡ out.old }
     ensures steps { CountsIf (asked_by (map string_bytes words.now)) (S.store source.old) steps.old steps.new }
 {
@@ -204,13 +198,13 @@ pub fn run<S: Source, K: Sink, E: Sink, L: Ledger>(
         (Rose (K.faults out.old) (K.faults out.new))
         (K.written out.old) (K.written out.new) outcome) }
 
-    // Where the words are refused, the source is untouched.
+    // Where the words are refused, and for a command that reads nothing, the source is untouched.
     ensures usage { IsNone (asked_by (map string_bytes words.now)) → (result ≡ 2) ⊎ (result ≡ 9) }
-    ensures untouched { IsNone (asked_by (map string_bytes words.now)) → source.new ≡ source.old }
+    ensures untouched { reads_input (asked_by (map string_bytes words.now)) ≡ false → source.new ≡ source.old }
 
     // Where nothing failed outside, the status is that of the refusal, or 0, or memory was wanting.
     ensures exact { IfSome (asked_by (map string_bytes words.now)) (λ asked.
-        IfSome (bytes_under (S.store source.old) (input_name asked)) (λ bytes.
+        IfSome (bytes_under (told_store asked (S.store source.old)) (input_name asked)) (λ bytes.
         (Rose (S.faults source.old) (S.faults source.new) → ⊥)
         → (Rose (K.faults out.old) (K.faults out.new) → ⊥)
         → (result ≡ status_for (refusal asked bytes)) ⊎ (result ≡ 9))) }
@@ -222,7 +216,7 @@ pub fn run<S: Source, K: Sink, E: Sink, L: Ledger>(
     ensures write_told { K.faults out.old < K.faults out.new → result ≡ 8 }
 
     // What is left.
-    ensures end { result ≡ 0 → IsAtEnd (S.left source.new) }
+    ensures end { result ≡ 0 → reads_input (asked_by (map string_bytes words.now)) ≡ true → IsAtEnd (S.left source.new) }
     ensures nothing { result ≢ 0 → result ≢ 8 → out.new ≡ out.old }
     ensures silent { result ≡ 0 → err.new ≡ err.old }
 

@@ -8,7 +8,11 @@ mod betti;
 #[cfg(test)]
 mod cells;
 #[cfg(test)]
+mod chains;
+#[cfg(test)]
 mod check;
+#[cfg(test)]
+mod make;
 #[cfg(test)]
 mod outside;
 #[cfg(test)]

@@ -1,3 +1,3 @@
 mod Digits
 mod Faults
-mod Moduli
+mod Ranges

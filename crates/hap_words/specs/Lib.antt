@@ -3,4 +3,4 @@ pub mod Texts
 pub mod Asked
 pub mod Table
 pub mod Reads
-pub mod Moduli
+pub mod Ranges

@@ -14,7 +14,7 @@ use Rattle.hap_words.specs.declared.table.Name.{Name}
 use Rattle.hap_words.specs.declared.table.Name.TheVariants as name
 use Rattle.hap_words.specs.Line.{hap_app}
 use Rattle.hap_words.specs.Texts.{named, number_between}
-use Rattle.hap_words.specs.Moduli.{is_modulus}
+use Rattle.hap_words.specs.Ranges.{is_modulus}
 use Rattle.hap_words.specs.Asked.{Asked, Source, SearchPlace, cells, check, betti, cup, verify, group, covers, cover, report, make}
 
 -- ---- the words
@@ -172,6 +172,7 @@ abbrev pub verb_is_built : Verb → Bool
 verb_is_built verb.Cells = true
 verb_is_built verb.Check = true
 verb_is_built verb.Betti = true
+verb_is_built verb.Make = true
 verb_is_built other = false
 
 abbrev pub kind_is_built : Kind → Bool

@@ -4,7 +4,7 @@ ghost use Rattle.std.specs.declared.option.Option.TheVariants.{Some, None};
 ghost use Rattle.clap.specs.Words.{rows_of, found_of, first_of};
 ghost use Rattle.hap_words.specs.Reads.{Reads};
 ghost use Rattle.hap_words.specs.Asked.{asked_of, source_of, place_of};
-ghost use Rattle.hap_words.specs.Moduli.{has_modulus};
+ghost use Rattle.hap_words.specs.Ranges.{is_in_range};
 ghost use Rattle.hap_words.specs.Table as table;
 
 use crate::command::{Command, Input, Kind};
@@ -300,7 +300,7 @@ fn is_built(command: &Command) -> bool
 pub fn read(alloc: Global, words: &[String]) -> Result<Command, WordsFault>
     ensures asked { Reads asked_of (table.read (map string_bytes words.now)) result }
     ensures built { IfOk result (λ command. table.is_built (asked_of command) ≡ true) }
-    ensures modulus { IfOk result (λ command. has_modulus (asked_of command) ≡ true) }
+    ensures ranges { IfOk result (λ command. is_in_range (asked_of command) ≡ true) }
 {
     let command = read_any(alloc, words)?;
     if is_built(&command) {

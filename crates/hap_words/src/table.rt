@@ -112,7 +112,7 @@ pub fn is_taken(verb: Verb, name: Name) -> bool
 pub fn is_verb_built(verb: Verb) -> bool
     ensures { result ≡ verb_is_built verb }
 {
-    matches!(verb, Verb::Cells | Verb::Check | Verb::Betti)
+    matches!(verb, Verb::Cells | Verb::Check | Verb::Betti | Verb::Make)
 }
 
 /// Whether the kind of input is built.

@@ -21,3 +21,4 @@ pub mod ValueLemmas
 pub mod Cofaces
 pub mod LineLemmas
 mod Examples
+mod Circle

@@ -1,22 +1,24 @@
 -- Entries and cochains, and what the tests of lines say.
-use Rattle.std.proofs.Common.{◌≡◌, ◌≢◌, ℕ, zero, suc, ◌+◌, ◌<◌, ◌≤◌, List, [], ◌∷◌, ◌++◌, Bool, true, false, cond, ◌&&◌, eqb, map, length, get_or, replicate, All, refl, ap, sym, ◌∙◌, subst, arith, eq-eqb}
+use Rattle.std.proofs.Common.{◌≡◌, ◌≢◌, ℕ, zero, suc, ◌+◌, ◌<◌, ◌≤◌, List, [], ◌∷◌, ◌++◌, Bool, true, false, cond, not, ◌&&◌, eqb, map, length, get_or, replicate, All, refl, ap, sym, ◌∙◌, subst, arith, eq-eqb}
 use Rattle.std.specs.Prelude.{⊤}
-use Rattle.std.specs.List.{range_with_len}
+use Rattle.std.specs.List.{AllByRecursion, list_all, range_with_len}
 use Rattle.std.specs.List.Sorted.{IsStrictlyIncreasing}
 use Rattle.std.proofs.lemmas.Bool.{eqb-true}
 use Rattle.std.proofs.lemmas.List.{length-map}
 use Rattle.std.proofs.lemmas.List.Elements.{All-head, All-tail}
 use Rattle.small_field.specs.Field.{Ops, IsField}
 use Rattle.small_field.proofs.Laws.{zero_below}
+use Rattle.linear_algebra.specs.Marks.{mark}
 use Rattle.linear_algebra.specs.Vectors.{combination, plus_scaled, IsVector, AreElements}
 use Rattle.face_poset.specs.Words.{upto}
 use Rattle.face_poset.proofs.Members.{differ, length-upto}
 use Rattle.order_complex.specs.Chains.{chains_of}
-use Rattle.order_complex.specs.Cochains.{coboundary, coboundary_at}
+use Rattle.order_complex.specs.Cochains.{boundary_on, coboundary, coboundary_at, coboundary_on, evaluation}
+use Rattle.order_complex.specs.Cochains.{mark as mark_of}
 use Rattle.order_complex.specs.Cup.{cup_at}
 use Rattle.order_complex.specs.Homology.{IsClass}
-use Rattle.order_complex.specs.Lines.{element_at, cochain_of, AreEntries, all_zero, cochain_in}
-use Rattle.order_complex.specs.LineLaws.{EntriesAreCochains, ClassLinesAreCocycles, ProductLinesAreProducts}
+use Rattle.order_complex.specs.Lines.{element_at, cochain_of, AreEntries, all_zero, cochain_in, value_on, rank_holds}
+use Rattle.order_complex.specs.LineLaws.{EntriesAreCochains, ClassLinesAreCocycles, ProductLinesAreProducts, TestsAreEquations}
 use Rattle.order_complex.specs.Values.{entries_from, entry_of}
 use Rattle.order_complex.proofs.Members.{range-member}
 use Rattle.order_complex.proofs.Twice.{bytes_eq-true, map-members}
@@ -181,3 +183,33 @@ module _ (F : Ops) (L : IsField F) where
         coboundary = (cochain_in space degree bound, cochain-vector (length (chains_of space degree)) bound hb, refl);
         is_sum = bytes_eq-true product (plus_scaled F 1 d (combination F n cs zs)) t;
       })
+
+  -- ---- the equations of rank lines, and of class lines
+
+  both : (a b : Bool) → (a && b) ≡ true → (a ≡ true) × (b ≡ true)
+  both true b h = (refl, h)
+  both false b h = absurd (cc)
+
+  not-zero-from : (x : ℕ) → not (eqb x 0) ≡ true → x ≢ 0
+  not-zero-from x h e = let yes : eqb x 0 ≡ true = eq-eqb x 0 e in let no_more : not true ≡ true = ap not (sym yes) ∙ h in absurd (cc)
+
+  all-zero-from : (f : List (ℕ × ℕ) → ℕ) (ts : List (List (ℕ × ℕ))) → list_all (λ t. eqb (f t) 0) ts ≡ true → AllByRecursion (λ t. f t ≡ 0) ts
+  all-zero-from f [] h = tt
+  all-zero-from f (t ∷ ts) h = let r = both (eqb (f t) 0) (list_all (λ t. eqb (f t) 0) ts) h in (eqb-true (f t) 0 r.0, all-zero-from f ts r.1)
+
+  rank-parts : (chains next : List (List ℕ)) (before : List (List (ℕ × ℕ))) (left right : List (ℕ × ℕ)) → rank_holds F chains next before left right ≡ true
+      → (value_on F (coboundary_on F chains next (cochain_of (length chains) left)) right ≢ 0) × AllByRecursion (λ earlier. value_on F (coboundary_on F chains next (cochain_of (length chains) left)) earlier ≡ 0) before
+  rank-parts chains next before left right h =
+      let value : List (ℕ × ℕ) → ℕ = value_on F (coboundary_on F chains next (cochain_of (length chains) left)) in
+      let r = both (not (eqb (value right) 0)) (list_all (λ earlier. eqb (value earlier) 0) before) h in
+      (not-zero-from (value right) r.0, all-zero-from value before r.1)
+
+  pub tests_are_equations : TestsAreEquations F
+  tests_are_equations = record {
+    own = λ chains next before left right h. (rank-parts chains next before left right h).0;
+    before = λ chains next before left right h. (rank-parts chains next before left right h).1;
+    cycle = λ below chains right h.
+        zeros-from (boundary_on F below chains (cochain_of (length chains) right)) h
+        ∙ ap (λ n. replicate n 0) (length-map below (λ chain. evaluation F (coboundary_on F below chains (mark_of below chain)) (cochain_of (length chains) right)));
+    pairing = λ chains rights place left h. bytes_eq-true (map (value_on F (cochain_of (length chains) left)) rights) (mark (length rights) place) h;
+  }

@@ -1,11 +1,14 @@
 -- The laws of a certificate's lines. `F` is the arithmetic of a field.
-use Rattle.std.specs.Prelude.{◌≡◌, ℕ, suc, ◌+◌, List, true, length, map}
+use Rattle.std.specs.Prelude.{◌≡◌, ◌≢◌, ℕ, suc, ◌+◌, List, true, length, map, replicate}
+use Rattle.std.specs.List.{AllByRecursion}
 use Rattle.small_field.specs.Field.{Ops}
+use Rattle.linear_algebra.specs.Marks.{mark}
 use Rattle.linear_algebra.specs.Vectors.{IsVector}
 use Rattle.order_complex.specs.Chains.{chains_of}
+use Rattle.order_complex.specs.Cochains.{boundary_on, coboundary_on}
 use Rattle.order_complex.specs.Cup.{IsProduct}
 use Rattle.order_complex.specs.Homology.{IsCocycle}
-use Rattle.order_complex.specs.Lines.{AreEntries, cochain_of, cochain_in, cocycle_holds, product_holds}
+use Rattle.order_complex.specs.Lines.{AreEntries, cochain_of, cochain_in, value_on, rank_holds, cocycle_holds, cycle_holds, pairing_holds, product_holds}
 use Rattle.order_complex.specs.Values.{entries_from}
 
 -- the entries of a cochain, read back, are the cochain, and the other way round
@@ -27,3 +30,14 @@ ProductLinesAreProducts F =
     → AreEntries F (length lefts) coefficients → AreEntries F (length (chains_of space degree)) bound
     → product_holds F i (chains_of space i) a (chains_of space j) b (chains_of space degree) (chains_of space (suc degree)) lefts coefficients bound ≡ true
     → IsProduct F space i (cochain_in space i a) j (cochain_in space j b) (map (cochain_in space (suc degree)) lefts) (cochain_of (length lefts) coefficients)
+
+-- where the test of a line holds, its equations hold: of a rank line, of the right side of a class line, and of its left side
+-- on all right sides
+pub record TestsAreEquations (F : Ops) : Type 0 where
+  pub own : (chains next : List (List ℕ)) (before : List (List (ℕ × ℕ))) (left right : List (ℕ × ℕ))
+      → rank_holds F chains next before left right ≡ true → value_on F (coboundary_on F chains next (cochain_of (length chains) left)) right ≢ 0
+  pub before : (chains next : List (List ℕ)) (before : List (List (ℕ × ℕ))) (left right : List (ℕ × ℕ))
+      → rank_holds F chains next before left right ≡ true → AllByRecursion (λ earlier. value_on F (coboundary_on F chains next (cochain_of (length chains) left)) earlier ≡ 0) before
+  pub cycle : (below chains : List (List ℕ)) (right : List (ℕ × ℕ)) → cycle_holds F below chains right ≡ true → boundary_on F below chains (cochain_of (length chains) right) ≡ replicate (length below) 0
+  pub pairing : (chains : List (List ℕ)) (rights : List (List (ℕ × ℕ))) (place : ℕ) (left : List (ℕ × ℕ))
+      → pairing_holds F chains rights place left ≡ true → map (value_on F (cochain_of (length chains) left)) rights ≡ mark (length rights) place

@@ -1,5 +1,5 @@
 // Laws of the order complex, each the contract of a function with an empty body.
-ghost use Rattle.order_complex.specs.LineLaws.{EntriesAreCochains, ClassLinesAreCocycles, ProductLinesAreProducts};
+ghost use Rattle.order_complex.specs.LineLaws.{EntriesAreCochains, ClassLinesAreCocycles, ProductLinesAreProducts, TestsAreEquations};
 ghost use Rattle.order_complex.specs.Laws.{ChainsAreOrdered, ChainsAreSequences, CoboundariesAreClosed, CoboundaryIsAdjoint, BettiIsOneNumber, BettiByRanks};
 
 use small_field::Field;
@@ -47,4 +47,9 @@ pub fn class_lines_are_cocycles<F: Field>()
 /// A product line of a certificate gives the coefficients of the cup product, modulo coboundaries.
 pub fn product_lines_are_products<F: Field>()
     ensures { ProductLinesAreProducts F.ops }
+{}
+
+/// Where the test of a rank line, or of a class line on its cycle and its pairing, holds, the equations hold.
+pub fn tests_are_equations<F: Field>()
+    ensures { TestsAreEquations F.ops }
 {}

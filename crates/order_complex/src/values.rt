@@ -44,8 +44,8 @@ impl<'a> Chains<'a> {
         }
     }
 
-    /// The coefficient, at a chain of one degree less, of the boundary of a chain with coefficients of a degree. Chains are
-    /// numbered from 1.
+    /// The coefficient of the boundary of a chain with coefficients, at a chain of one degree less, which is numbered from
+    /// 1: the sum of the coefficients of its cofaces, each with the sign of the chain in it.
     pub fn boundary_at<F: Field>(&self, degree: u8, c: &Cochain<F>, chain: u32) -> F
         requires low { 1 ≤ degree }
         requires high { degree ≤ 3 }
@@ -54,6 +54,7 @@ impl<'a> Chains<'a> {
         requires last { chain ≤ length (chains_of self.now (degree - 1)) }
         ensures { F.number_of result ≡ slice_index (boundary F.ops self.now (degree - 1) c.now) (chain - 1) }
     {
+        // From here on it is known that they are elements of the field.
         let _coefficients = c.len();
         let mut total = F::zero();
         for coface in self.cofaces(degree - 1, chain) {

@@ -18,4 +18,5 @@ pub mod Numbered
 pub mod Parts
 pub mod RegularParts
 pub mod Rounds
+pub mod Transfer
 pub mod Examples

@@ -164,12 +164,6 @@ module _ (space : List (List (List ℕ))) (edges : List ℕ) where
     shares v z m k = In-filter (λ c. holds (facets_of space 1 c) v) m (In-holds k)
 
     module _ (v e : ℕ) (start : In e edges) (begin : In v (facets_of space 1 e)) where
-      abbrev V : ℕ → ℕ
-      V k = vertex_after v e k
-
-      abbrev E : ℕ → ℕ
-      E k = edge_after v e k
-
       -- the walk stays on the edges
       at : (k : ℕ) → In (edge_after v e k) edges × In (vertex_after v e k) (facets_of space 1 (edge_after v e k))
       at zero = (start, begin)

@@ -1,5 +1,5 @@
 // The numbers of edges and vertices in the boundary of a 3-cell.
-ghost use Rattle.std.specs.Prelude.{◌≡◌, ◌≤◌, ◌+◌, length, IfOk};
+ghost use Rattle.std.specs.Prelude.{◌≡◌, ◌≤◌, length, IfOk};
 ghost use Rattle.face_poset.specs.Below.{facets_of_all};
 ghost use Rattle.face_poset.specs.Poset.{IsCell, IsSpace, count};
 

@@ -1,8 +1,7 @@
 // The connected components of a space.
-ghost use Rattle.std.specs.Prelude.{◌≡◌, ℕ, ◌+◌, ◌-◌, ◌<◌, ◌≤◌, length, cond, slice_index, All, IfOk, OnOk};
-ghost use Rattle.std.specs.List.{flat_map};
+ghost use Rattle.std.specs.Prelude.{◌≡◌, ℕ, ◌-◌, ◌≤◌, length, slice_index, IfOk, OnOk};
 ghost use Rattle.face_poset.specs.Words.{holds};
-ghost use Rattle.face_poset.specs.Poset.{count, facets_of};
+ghost use Rattle.face_poset.specs.Poset.{count};
 ghost use Rattle.regular_check.specs.Components.{are_joined, components_of};
 
 use crate::marks::Marks;

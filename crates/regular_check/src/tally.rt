@@ -1,6 +1,6 @@
 // Tallies of the cells that have a facet.
-ghost use Rattle.std.specs.Prelude.{◌≡◌, ◌↔◌, ◌≤◌, ◌-◌, length, true, IsTrue};
-ghost use Rattle.face_poset.specs.Poset.{IsCell, count, facets_of};
+ghost use Rattle.std.specs.Prelude.{◌≡◌, ◌≤◌, ◌-◌, length, true};
+ghost use Rattle.face_poset.specs.Poset.{IsCell, count};
 ghost use Rattle.regular_check.specs.Rules.{each_twice};
 ghost use Rattle.regular_check.specs.Tally.{AllGain, AllClear, IsBlank, IsTally, IsModest, all_double};
 

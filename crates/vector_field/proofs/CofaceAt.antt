@@ -1,6 +1,6 @@
 -- The cofaces that a call hands out.
-use Rattle.std.proofs.Common.{◌≡◌, ℕ, ◌+◌, ◌<◌, ◌≤◌, List, length, get_or, subst, arith}
-use Rattle.face_poset.specs.Poset.{count, facets_of, cofaces_of}
+use Rattle.std.proofs.Common.{◌≡◌, ℕ, ◌+◌, ◌<◌, List, length, get_or, subst, arith}
+use Rattle.face_poset.specs.Poset.{cofaces_of}
 use Rattle.vector_field.specs.Pairs.{counts_of}
 use Rattle.vector_field.specs.Pairings.{HasCell}
 use Rattle.vector_field.proofs.Members.{In, at-In}

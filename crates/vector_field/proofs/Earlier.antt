@@ -1,17 +1,15 @@
 -- What the order of a field is good for.
-use Rattle.std.proofs.Common.{◌≡◌, ◌≢◌, ◌⊎◌, inl, inr, ℕ, zero, suc, ◌+◌, ◌<◌, ◌≤◌, List, [], ◌∷◌, Bool, true, false, ◌&&◌, not, eqb, filter, length, get_or, refl, ap, sym, ◌∙◌, subst, arith, Contains}
+use Rattle.std.proofs.Common.{◌≡◌, ◌⊎◌, inl, inr, ℕ, zero, suc, ◌+◌, ◌<◌, List, [], ◌∷◌, Bool, true, false, not, eqb, length, get_or, refl, ap, sym, ◌∙◌, subst, arith, Contains}
 use Rattle.std.specs.List.{list_any}
-use Rattle.std.proofs.lemmas.Bool.{eqb-true, eqb-false, eq-eqb, ne_eqb, not-true, not_from_false, cases_Bool, cases_order}
+use Rattle.std.proofs.lemmas.Bool.{eqb-false, not-true, cases_Bool, cases_order}
 use Rattle.face_poset.specs.declared.cells.Pair.{Pair}
-use Rattle.face_poset.specs.Words.{holds}
 use Rattle.face_poset.specs.Poset.{facets_of}
-use Rattle.vector_field.specs.Pairs.{pair, has_lower, is_used, is_incident, others, IsValid}
+use Rattle.vector_field.specs.Pairs.{has_lower, others, IsValid}
 use Rattle.vector_field.specs.Paths.{Leads, arrived, along, GradientPath}
-use Rattle.vector_field.specs.Maximal.{IsMaximal}
 use Rattle.vector_field.specs.Laws.{IsClosed, AddedPairCloses, ValidClosesNone, SubstitutionEnds}
-use Rattle.vector_field.proofs.Members.{In, here, there, filter-In, any-some, In-Contains, Contains-In, at-In}
+use Rattle.vector_field.proofs.Members.{In, filter-In, any-some, In-Contains, Contains-In, at-In}
 use Rattle.vector_field.proofs.Lined.{Lined}
-use Rattle.vector_field.proofs.Valid.{Goes, IsLined, lined-from, has_lower-true}
+use Rattle.vector_field.proofs.Valid.{Goes, lined-from, has_lower-true}
 use Rattle.vector_field.proofs.Paths.{other-In}
 
 -- an earlier place stands in the relation to a later one
@@ -60,8 +58,8 @@ module _ (space : List (List (List ℕ))) (pairs : List Pair) (valid : IsValid s
   none-closed p c h = omega (arith, falls p.dim p c refl p c refl (Contains-In h.other) h.leads)
 
   module _ (dim : ℕ) (known : ℕ → Bool)
-    (free : (p : Pair) (f : ℕ) → Contains pairs p → p.dim ≡ dim → Contains (others space p) f → list_any (has_lower dim f) pairs ≡ false → known f ≡ true)
-    (step : (p : Pair) → Contains pairs p → p.dim ≡ dim → ((f : ℕ) → Contains (others space p) f → known f ≡ true) → known p.lower ≡ true) where
+      (free : (p : Pair) (f : ℕ) → Contains pairs p → p.dim ≡ dim → Contains (others space p) f → list_any (has_lower dim f) pairs ≡ false → known f ≡ true)
+      (step : (p : Pair) → Contains pairs p → p.dim ≡ dim → ((f : ℕ) → Contains (others space p) f → known f ≡ true) → known p.lower ≡ true) where
     -- at all places below n
     below : (n : ℕ) (p : Pair) → (c : Contains pairs p) → c.0 < n → p.dim ≡ dim → known p.lower ≡ true
     below zero p c l d = absurd (omega arith)

@@ -1,9 +1,8 @@
 -- A valid field has each upper once.
-use Rattle.std.proofs.Common.{◌≡◌, ◌⊎◌, inl, inr, ℕ, ◌+◌, ◌<◌, ◌≤◌, List, Bool, true, not, filter, length, get_or, ap, sym, ◌∙◌, subst, arith, Contains}
-use Rattle.face_poset.specs.declared.cells.Pair.{Pair}
+use Rattle.std.proofs.Common.{◌≡◌, inl, inr, ℕ, ◌+◌, ◌<◌, ◌≤◌, List, not, length, get_or, ap, sym, ◌∙◌, subst}
 use Rattle.face_poset.specs.Words.{upto}
 use Rattle.face_poset.specs.Poset.{count}
-use Rattle.vector_field.specs.Pairs.{Field, IsFieldOf, is_used, unpaired, critical_of, counts_of}
+use Rattle.vector_field.specs.Pairs.{Field, IsFieldOf, is_used, unpaired, critical_of}
 use Rattle.vector_field.specs.Pairings.{IsPairing}
 use Rattle.vector_field.proofs.Members.{In, In-inside, at-In, Contains-In}
 use Rattle.vector_field.proofs.Lined.{lined-two}

@@ -1,7 +1,6 @@
 -- Facets and cofaces are cells that are there.
-use Rattle.std.proofs.Common.{◌≡◌, ℕ, ◌+◌, ◌-◌, ◌<◌, ◌≤◌, List, [], length, get_or, ap, sym, ◌∙◌, subst, arith}
-use Rattle.std.proofs.lemmas.List.{get_or_default}
-use Rattle.face_poset.specs.Poset.{count, facets_of, layer, IsCell, IsSpace}
+use Rattle.std.proofs.Common.{◌≡◌, ℕ, ◌+◌, ◌-◌, ◌≤◌, List, [], get_or, ap, subst, arith}
+use Rattle.face_poset.specs.Poset.{count, facets_of, IsCell, IsSpace}
 use Rattle.vector_field.specs.Pairs.{counts_of}
 use Rattle.vector_field.specs.Pairings.{HasCell}
 use Rattle.vector_field.proofs.Members.{In, In-Contains}

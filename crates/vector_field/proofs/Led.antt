@@ -1,20 +1,17 @@
 -- The search finds exactly what leads to a cell.
-use Rattle.std.proofs.Common.{◌≡◌, ◌≢◌, ◌⊎◌, inl, inr, ℕ, zero, suc, ◌+◌, ◌-◌, ◌<◌, ◌≤◌, List, [], ◌∷◌, ◌++◌, Bool, true, false, cond, ◌&&◌, not, eqb, filter, length, get_or, take, Option, Some, None, MatchOption, refl, ap, sym, ◌∙◌, subst, arith, Contains}
-use Rattle.std.specs.List.{list_any}
-use Rattle.std.proofs.lemmas.Bool.{eqb-true, eqb-false, eq-eqb, and_parts, not-true, cases_Bool, cases_eq, cases_lt, both_ways, false≢true}
-use Rattle.std.proofs.lemmas.List.{take_more, length_push, get_or_append_left, get_or_default}
+use Rattle.std.proofs.Common.{◌≡◌, ◌≢◌, ◌⊎◌, inl, inr, ℕ, ◌+◌, ◌<◌, ◌≤◌, List, [], ◌∷◌, ◌++◌, Bool, true, false, cond, not, eqb, length, get_or, refl, ap, sym, ◌∙◌, subst, arith, Contains}
+use Rattle.std.proofs.lemmas.Bool.{eqb-false, not-true, cases_lt, false≢true}
+use Rattle.std.proofs.lemmas.List.{length_push, get_or_append_left, get_or_default}
 use Rattle.face_poset.specs.declared.cells.Pair.{Pair}
 use Rattle.face_poset.specs.Words.{holds}
 use Rattle.face_poset.specs.Poset.{count, facets_of, cofaces_of}
-use Rattle.vector_field.specs.Pairs.{pair, is_incident, others, Field}
-use Rattle.vector_field.specs.Pairings.{has_upper, IsPairing}
+use Rattle.vector_field.specs.Pairs.{pair, is_incident, others}
 use Rattle.vector_field.specs.Paths.{Leads, arrived, along, leads_to}
 use Rattle.vector_field.specs.Founds.{with_number}
 use Rattle.vector_field.specs.Searches.{IsLed, IsStep, HasSteps}
-use Rattle.vector_field.proofs.Members.{In, here, there, In-cases, filter-In, In-inside, In-holds, holds-In, In-Contains, Contains-In, In-left, In-last, push-In, append-In, at-In, none-In, same_bool}
+use Rattle.vector_field.proofs.Members.{In, here, In-cases, filter-In, In-inside, In-holds, holds-In, In-Contains, Contains-In, In-left, In-last, push-In, at-In, same_bool}
 use Rattle.vector_field.proofs.Paths.{other-In, leads-sound, leads-complete}
-use Rattle.vector_field.proofs.MaximalTest.{Incident, incident-true, Coface, cofaces-In, In-cofaces}
-use Rattle.vector_field.proofs.Noted.{has_upper-from}
+use Rattle.vector_field.proofs.MaximalTest.{incident-true, cofaces-In, In-cofaces}
 
 -- one number more
 pub record IsMore (n : ℕ) (old new : List ℕ) : Type 0 where

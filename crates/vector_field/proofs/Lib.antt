@@ -9,7 +9,11 @@ pub mod Marked
 pub mod Places
 pub mod InRange
 pub mod Unpaired
-pub mod Bad
 pub mod Led
 pub mod CofaceAt
 pub mod Fields
+pub mod Only
+pub mod Making
+pub mod Inserted
+pub mod Settled
+pub mod Examples

@@ -1,7 +1,7 @@
 -- Marks of numbers.
-use Rattle.std.proofs.Common.{◌≡◌, ◌⊎◌, inl, inr, ℕ, ◌+◌, ◌-◌, ◌<◌, ◌≤◌, List, [], ◌∷◌, ◌++◌, Bool, true, false, cond, ◌||◌, eqb, length, drop, get_or, set, replicate, refl, ap, sym, ◌∙◌, subst, arith}
+use Rattle.std.proofs.Common.{◌≡◌, inl, inr, ℕ, ◌+◌, ◌-◌, ◌<◌, ◌≤◌, List, [], ◌∷◌, ◌++◌, Bool, true, false, ◌||◌, eqb, length, drop, get_or, set, replicate, refl, ap, sym, ◌∙◌, subst, arith}
 use Rattle.std.specs.List.{list_any, IsDistinct}
-use Rattle.std.proofs.lemmas.Bool.{eqb-true, eq-eqb, false≢true, cases_eq, cases_Bool, or_cases, or_left, or_right, both_ways, false_from_ne_true}
+use Rattle.std.proofs.lemmas.Bool.{eqb-true, eq-eqb, false≢true, cases_eq, or_cases, or_left, or_right, false_from_ne_true}
 use Rattle.std.proofs.lemmas.Cmp.{nat_eq_equiv}
 use Rattle.std.proofs.lemmas.Map.Keys.{IsDistinct-push}
 use Rattle.std.proofs.lemmas.List.{get_or-replicate, length-set, get_or-set_same, get_or-set_other, length-replicate, drop_more, get_or_default}
@@ -9,7 +9,7 @@ use Rattle.std.proofs.lemmas.Map.Made.{length-le_from_is_member}
 use Rattle.face_poset.specs.Words.{holds, upto}
 use Rattle.face_poset.proofs.Members.{holds-upto, length-upto}
 use Rattle.vector_field.specs.Founds.{IsMarked}
-use Rattle.vector_field.proofs.Members.{In, In-cases, In-holds, holds-In, In-last, In-left, push-In, at-In, same_bool}
+use Rattle.vector_field.proofs.Members.{In-cases, In-holds, holds-In, In-last, In-left, push-In, at-In, same_bool}
 
 pub marked-none : (most : ℕ) → IsMarked (replicate {A = Bool} most false) []
 unfolding IsDistinct
@@ -93,6 +93,6 @@ left-none marks h = record {
 pub few-found : (marks : List Bool) (found : List ℕ) → IsMarked marks found → length found ≤ length marks
 few-found marks found h =
     let short : length found ≤ length (upto (length marks)) =
-        length-le_from_is_member nat_eq_equiv found (upto (length marks)) h.distinct
-        (λ q e. let w = h.within q (sym (any-holds found q) ∙ e) in any-holds (upto (length marks)) q ∙ holds-upto (length marks) q w.0 w.1) in
+    length-le_from_is_member nat_eq_equiv found (upto (length marks)) h.distinct
+    (λ q e. let w = h.within q (sym (any-holds found q) ∙ e) in any-holds (upto (length marks)) q ∙ holds-upto (length marks) q w.0 w.1) in
     omega (arith, short, length-upto (length marks))

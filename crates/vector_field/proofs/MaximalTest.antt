@@ -1,15 +1,15 @@
 -- The computed test for maximal fields is exact.
-use Rattle.std.proofs.Common.{◌≡◌, ◌↔◌, ◌⊎◌, inl, inr, ℕ, zero, suc, ◌+◌, ◌<◌, ◌≤◌, List, [], ◌∷◌, Bool, true, false, ◌&&◌, ◌||◌, not, eqb, ltb, leb, filter, length, get_or, refl, ap, sym, ◌∙◌, subst, arith, Contains}
+use Rattle.std.proofs.Common.{◌≡◌, inl, inr, ℕ, zero, suc, ◌+◌, ◌<◌, ◌≤◌, List, true, false, ◌&&◌, not, ltb, leb, subst, arith}
 use Rattle.std.specs.List.{list_all}
 use Rattle.std.proofs.lemmas.Bool.{and_parts, and_from, or_cases, or_left, or_right, not-true, not_from_false, ltb-true, lt-ltb, leb-true, le-leb, cases_Bool, both_ways}
 use Rattle.face_poset.specs.declared.cells.Pair.{Pair}
 use Rattle.face_poset.specs.Words.{upto, holds}
-use Rattle.face_poset.specs.Poset.{count, facets_of, cofaces_of, layer}
+use Rattle.face_poset.specs.Poset.{count, facets_of, cofaces_of}
 use Rattle.face_poset.proofs.Members.{holds-upto, All-upto}
 use Rattle.vector_field.specs.Pairs.{pair, is_used, is_incident, unpaired}
 use Rattle.vector_field.specs.Paths.{GradientPath, has_path}
 use Rattle.vector_field.specs.Maximal.{IsMaximal, is_settled, is_maximal_at, is_maximal, MaximalIsExact}
-use Rattle.vector_field.proofs.Members.{In, here, there, In-filter, filter-In, In-inside, all-In, In-all, holds-In, In-holds, In-Contains, Contains-In}
+use Rattle.vector_field.proofs.Members.{In, In-filter, filter-In, In-inside, all-In, In-all, holds-In, In-holds, In-Contains}
 use Rattle.vector_field.proofs.Paths.{path_is_exact}
 
 -- what it is to be incident

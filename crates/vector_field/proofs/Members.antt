@@ -1,8 +1,8 @@
 -- Members of lists, and tests over them.
-use Rattle.std.proofs.Common.{◌≡◌, ◌⊎◌, inl, inr, ℕ, zero, suc, ◌+◌, ◌<◌, List, [], ◌∷◌, ◌++◌, Bool, true, false, cond, ◌||◌, ◌&&◌, not, eqb, filter, map, reverse, length, take, get_or, refl, ap, sym, ◌∙◌, subst, arith, Contains}
+use Rattle.std.proofs.Common.{◌≡◌, ◌⊎◌, inl, inr, ℕ, zero, suc, ◌<◌, List, [], ◌∷◌, ◌++◌, Bool, true, false, cond, ◌||◌, eqb, filter, map, reverse, length, get_or, refl, sym, ◌∙◌, subst, arith, Contains}
 use Rattle.std.specs.List.{list_any, list_all}
-use Rattle.std.proofs.lemmas.Bool.{eqb-true, eq-eqb, false≢true, or_cases, or_left, or_right, and_parts, and_from, false_from_ne_true}
-use Rattle.std.proofs.lemmas.List.{get_or_default, reverse-append, take_more}
+use Rattle.std.proofs.lemmas.Bool.{eqb-true, eq-eqb, false≢true, or_left, or_right, and_parts, and_from, false_from_ne_true}
+use Rattle.std.proofs.lemmas.List.{reverse-append}
 use Rattle.face_poset.specs.Words.{holds}
 
 pub data In {A : Type 0} (x : A) : List A → Type 0 where

@@ -1,17 +1,16 @@
 -- Notes of partners.
-use Rattle.std.proofs.Common.{◌≡◌, ◌≢◌, ◌⊎◌, inl, inr, ℕ, zero, suc, ◌+◌, ◌-◌, ◌<◌, ◌≤◌, List, [], ◌∷◌, ◌++◌, Bool, true, false, cond, ◌||◌, ◌&&◌, eqb, map, length, get_or, Option, Some, None, refl, ap, sym, ◌∙◌, subst, arith, Contains, MatchOption}
+use Rattle.std.proofs.Common.{◌≡◌, ◌⊎◌, inl, inr, ℕ, zero, suc, ◌+◌, ◌-◌, ◌≤◌, List, [], ◌∷◌, Bool, true, false, cond, ◌||◌, ◌&&◌, eqb, length, get_or, Option, Some, None, refl, ap, sym, ◌∙◌, subst, arith, Contains, MatchOption}
 use Rattle.std.specs.Prelude.{is_some}
 use Rattle.std.specs.List.{list_any}
-use Rattle.std.proofs.lemmas.Bool.{eqb-true, eq-eqb, ne_eqb, and_parts, and_from, and_left, cases_Bool, cases_eq, false≢true, or_cases}
+use Rattle.std.proofs.lemmas.Bool.{eqb-true, eq-eqb, and_parts, and_from, cases_Bool, cases_eq, cases_lt}
 use Rattle.std.proofs.lemmas.Option.{none-some, same_Some}
+use Rattle.std.proofs.lemmas.List.{get_or_past}
 use Rattle.face_poset.specs.declared.cells.Pair.{Pair}
-use Rattle.vector_field.specs.declared.partner.Partner.{Partner}
-use Rattle.vector_field.specs.declared.partner.Partner.TheVariants.{Critical, Upper, Lower}
 use Rattle.vector_field.specs.CellMaps.{at, row, IsPut}
-use Rattle.vector_field.specs.Pairs.{pair, has_lower, uses, is_used, IsPartner}
-use Rattle.vector_field.specs.Pairings.{has_upper, HasCell, lengths, IsNoted}
-use Rattle.vector_field.proofs.Members.{In, any-In, any-some, any-none, In-Contains, Contains-In, same_bool}
-use Rattle.vector_field.proofs.Valid.{Uses, has_lower-true, used-In, unused-from}
+use Rattle.vector_field.specs.Pairs.{pair, is_used}
+use Rattle.vector_field.specs.Pairings.{has_upper, lengths, IsNoted}
+use Rattle.vector_field.proofs.Members.{In, any-none, In-Contains, Contains-In}
+use Rattle.vector_field.proofs.Valid.{Uses, used-In, unused-from}
 
 -- how many cells a row is for
 pub length-row : (cells : List (List (Option ℕ))) (dim : ℕ) → get_or (lengths cells) dim 0 ≡ length (row cells dim)
@@ -86,6 +85,7 @@ module _ (ps : List Pair) (uppers lowers : List (List (Option ℕ))) (h : IsNote
     where
       same_pair : (p : Pair) (d l u : ℕ) → p.dim ≡ d → p.lower ≡ l → p.upper ≡ u → p ≡ pair d l u
       same_pair p d l u x y z = ap (λ (k : ℕ). pair k p.lower p.upper) x ∙ (ap (λ (k : ℕ). pair d k p.upper) y ∙ ap (λ (k : ℕ). pair d l k) z)
+
       low-of : {a b : ℕ} → a ≡ b → 1 ≤ a → 1 ≤ b
       low-of e l = omega (arith, e, l)
 
@@ -104,15 +104,8 @@ module _ (ps : List Pair) (uppers lowers : List (List (Option ℕ))) (h : IsNote
 
 module _ (ps : List Pair) (uppers lowers : List (List (Option ℕ))) (h : IsNoted ps uppers lowers) where
   -- what the notes tell of the pairs
-  pub no_upper : (dim cell : ℕ) → at uppers dim cell ≡ None → list_any (has_lower dim cell) ps ≡ false
-  no_upper dim cell e = any-none (has_lower dim cell) ps (λ p m k. let l = has_lower-true p dim cell k in h.upper_all p (In-Contains m) (ap (λ (d : ℕ). at uppers d p.lower) l.0 ∙ (ap (λ (n : ℕ). at uppers dim n) l.1 ∙ e)))
-
   pub no_lower : (dim cell : ℕ) → at lowers (dim + 1) cell ≡ None → list_any (has_upper dim cell) ps ≡ false
   no_lower dim cell e = any-none (has_upper dim cell) ps (λ p m k. let l = has_upper-true p dim cell k in h.lower_all p (In-Contains m) (ap (λ (d : ℕ). at lowers (d + 1) p.upper) l.0 ∙ (ap (λ (n : ℕ). at lowers (dim + 1) n) l.1 ∙ e)))
-
-  pub upper_tells : (dim cell : ℕ) (o : Option ℕ) → 1 ≤ cell → o ≡ at uppers dim cell → MatchOption o (list_any (has_lower dim cell) ps ≡ false) (λ upper. Contains ps (pair dim cell upper))
-  upper_tells dim cell None low e = no_upper dim cell (sym e)
-  upper_tells dim cell (Some u) low e = h.upper_in dim cell u low (sym e)
 
   pub lower_tells : (dim cell : ℕ) (o : Option ℕ) → 1 ≤ cell → o ≡ at lowers (dim + 1) cell → MatchOption o (list_any (has_upper dim cell) ps ≡ false) (λ lower. Contains ps (pair dim lower cell))
   lower_tells dim cell None low e = no_lower dim cell (sym e)
@@ -134,3 +127,21 @@ module _ (ps : List Pair) (uppers lowers : List (List (Option ℕ))) (h : IsNote
   is_used_by dim cell (Some u) q low a b = used-In dim cell (Contains-In (h.upper_in dim cell u low a)) (inl (refl, refl))
   is_used_by dim cell None (Some l) low a b = let w = lower_above dim cell l low b in used-In dim cell (Contains-In w.2) (inr (sym w.1, refl))
   is_used_by dim cell None None low a b = unused dim cell a b
+
+  -- a cell that is not there is in no pair
+  pub unused_past : (dim cell : ℕ) → ((1 ≤ cell) × (cell ≤ length (row uppers dim)) → ⊥) → is_used ps dim cell ≡ false
+  unused_past dim cell past = unused-from ps dim cell by
+    where
+      nothing : (cells : List (List (Option ℕ))) → length (row cells dim) ≡ length (row uppers dim) → 1 ≤ cell → at cells dim cell ≡ None
+      nothing cells e l = elim (cases_lt (cell - 1) (length (row cells dim))) [ inl a ↦ absurd (past (l, omega arith)) | inr a ↦ get_or_past (row cells dim) (cell - 1) None a ]
+
+      same : length (row lowers dim) ≡ length (row uppers dim)
+      same = sym (length-row lowers dim) ∙ (ap (λ (ns : List ℕ). get_or ns dim 0) h.same ∙ length-row uppers dim)
+
+      by : (p : Pair) → In p ps → Uses p dim cell → ⊥
+      by p m (inl u) =
+          let l : 1 ≤ cell = omega (arith, (h.first p (In-Contains m)).0, u.1) in
+          h.upper_all p (In-Contains m) (ap (λ (d : ℕ). at uppers d p.lower) u.0 ∙ (ap (λ (n : ℕ). at uppers dim n) u.1 ∙ nothing uppers refl l))
+      by p m (inr u) =
+          let l : 1 ≤ cell = omega (arith, (h.first p (In-Contains m)).1, u.1) in
+          h.lower_all p (In-Contains m) (ap (λ (d : ℕ). at lowers d p.upper) u.0 ∙ (ap (λ (n : ℕ). at lowers dim n) u.1 ∙ nothing lowers same l))

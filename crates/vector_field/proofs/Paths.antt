@@ -1,15 +1,14 @@
 -- The computed test for gradient paths is exact.
-use Rattle.std.proofs.Common.{◌≡◌, ◌≢◌, ◌↔◌, ◌⊎◌, inl, inr, ℕ, ◌+◌, List, [], ◌∷◌, Bool, true, false, ◌&&◌, ◌||◌, not, eqb, filter, map, refl, ap, sym, ◌∙◌, subst, Contains}
-use Rattle.std.specs.List.{list_any}
-use Rattle.std.proofs.lemmas.Bool.{eqb-true, eqb-false, eq-eqb, ne_eqb, and_parts, and_from, or_right, not-true, not_from_false}
+use Rattle.std.proofs.Common.{◌≡◌, ◌≢◌, ℕ, ◌+◌, List, ◌∷◌, Bool, true, ◌&&◌, not, eqb, refl, subst}
+use Rattle.std.proofs.lemmas.Bool.{eqb-false, eq-eqb, ne_eqb, and_parts, and_from, or_right, not-true, not_from_false}
 use Rattle.face_poset.specs.declared.cells.Pair.{Pair}
 use Rattle.face_poset.specs.Words.{holds}
 use Rattle.face_poset.specs.Poset.{facets_of}
-use Rattle.regular_check.specs.Reach.{reaches, Reaches, at_start, on}
+use Rattle.regular_check.specs.Reach.{Reaches, at_start, on}
 use Rattle.regular_check.proofs.Reach.{reaches_is}
 use Rattle.vector_field.specs.Pairs.{has_lower, others}
-use Rattle.vector_field.specs.Paths.{Leads, arrived, along, GradientPath, leads_step, lowers_of, leads_to, has_path, PathIsExact}
-use Rattle.vector_field.proofs.Members.{In, here, there, In-filter, In-map, any-In, any-some, holds-In, In-holds, In-Contains, Contains-In}
+use Rattle.vector_field.specs.Paths.{Leads, arrived, along, GradientPath, leads_step, lowers_of, leads_to, PathIsExact}
+use Rattle.vector_field.proofs.Members.{In, here, In-filter, In-map, any-In, any-some, holds-In, In-holds, In-Contains, Contains-In}
 use Rattle.vector_field.proofs.Valid.{has_lower-true, has_lower-from}
 
 module _ (space : List (List (List ℕ))) (pairs : List Pair) (dim last : ℕ) where

@@ -1,7 +1,7 @@
 -- Last places of lowers.
-use Rattle.std.proofs.Common.{◌≡◌, ◌≢◌, ◌⊎◌, inl, inr, ℕ, zero, suc, ◌+◌, ◌-◌, ◌<◌, ◌≤◌, List, [], ◌∷◌, Bool, true, false, cond, ◌&&◌, eqb, ltb, leb, length, get_or, drop, Option, Some, None, MatchOption, refl, ap, sym, ◌∙◌, subst, arith}
+use Rattle.std.proofs.Common.{◌≡◌, ◌⊎◌, inl, inr, ℕ, zero, suc, ◌+◌, ◌-◌, ◌<◌, ◌≤◌, List, Bool, true, false, ◌&&◌, ltb, leb, length, get_or, drop, Option, Some, None, refl, ap, sym, ◌∙◌, subst, arith}
 use Rattle.std.specs.List.{list_any}
-use Rattle.std.proofs.lemmas.Bool.{and_from, lt-ltb, le-ltb, le-leb, false_from_ne_true, false≢true, cases_lt, cases_eq, cases_Bool}
+use Rattle.std.proofs.lemmas.Bool.{and_from, lt-ltb, le-ltb, le-leb, false_from_ne_true, false≢true, cases_lt}
 use Rattle.std.proofs.lemmas.List.{get_or-drop, length-drop, get_or_default}
 use Rattle.face_poset.specs.declared.cells.Pair.{Pair}
 use Rattle.face_poset.specs.Poset.{count}
@@ -9,7 +9,7 @@ use Rattle.vector_field.specs.CellMaps.{at, row, IsPut}
 use Rattle.vector_field.specs.Pairs.{pair, has_lower, counts_of}
 use Rattle.vector_field.specs.Pairings.{lengths}
 use Rattle.vector_field.specs.LastPlaces.{pair_at, IsLastPlace, AreLast}
-use Rattle.vector_field.proofs.Members.{In, In-Contains, at-In, any-In, any-none}
+use Rattle.vector_field.proofs.Members.{In-Contains, at-In, any-In, any-none}
 use Rattle.vector_field.proofs.Valid.{has_lower-true, has_lower-from}
 use Rattle.vector_field.proofs.Noted.{put-at, put-cases, length-row}
 
@@ -34,9 +34,6 @@ place-more pairs n dim cell (Some i) ne h = (omega (arith, h.0), h.1, λ k a l. 
 
 not-lower : (p : Pair) (dim cell : ℕ) → ((p.dim ≡ dim) × (p.lower ≡ cell) → ⊥) → has_lower dim cell p ≡ false
 not-lower p dim cell k = false_from_ne_true (has_lower dim cell p) (λ e. k (has_lower-true p dim cell e))
-
-pub last-none : (space : List (List (List ℕ))) (pairs : List Pair) (last : List (List (Option ℕ))) → ((dim cell : ℕ) → at last dim cell ≡ None) → AreLast space pairs 0 last
-last-none space pairs last e dim cell d a b = subst (IsLastPlace pairs 0 dim cell) (sym (e dim cell)) (λ k l. absurd (omega arith))
 
 pub last-put : (space : List (List (List ℕ))) (pairs : List Pair) (n : ℕ) (p : Pair) (old new : List (List (Option ℕ))) → p ≡ pair_at pairs n → IsPut old p.dim p.lower n new → AreLast space pairs n old → AreLast space pairs (n + 1) new
 last-put space pairs n p old new e put h dim cell d a b =

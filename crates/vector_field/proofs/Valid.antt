@@ -1,12 +1,10 @@
 -- A valid list of pairs: each pair is incident, and each may stand before each later one.
-use Rattle.std.proofs.Common.{◌≡◌, ◌≢◌, ◌⊎◌, inl, inr, ℕ, zero, suc, ◌+◌, ◌<◌, List, [], ◌∷◌, ◌++◌, Bool, true, false, cond, ◌||◌, ◌&&◌, not, eqb, filter, Option, Some, None, length, refl, ap, sym, ◌∙◌, subst, arith}
-use Rattle.std.specs.List.{list_any, list_all}
-use Rattle.std.proofs.lemmas.Bool.{eqb-true, eq-eqb, false≢true, and_parts, and_from, or_cases, or_left, or_right, or_parts, not-true, not_from_false, true_from_ne_false, false_from_ne_true}
+use Rattle.std.proofs.Common.{◌≡◌, ◌⊎◌, inl, inr, ℕ, suc, ◌+◌, List, [], ◌∷◌, ◌++◌, Bool, true, false, cond, ◌&&◌, not, eqb, Option, Some, None, refl, ap, sym, ◌∙◌, subst}
+use Rattle.std.specs.List.{list_any}
+use Rattle.std.proofs.lemmas.Bool.{eqb-true, eq-eqb, and_parts, and_from, or_cases, or_left, or_right, not-true, not_from_false}
 use Rattle.std.proofs.lemmas.Option.{none-some}
 use Rattle.face_poset.specs.declared.cells.Pair.{Pair}
-use Rattle.face_poset.specs.Words.{holds}
-use Rattle.face_poset.specs.Poset.{facets_of}
-use Rattle.vector_field.specs.Pairs.{pair, has_lower, uses, is_used, is_incident, others, comes_before, fits, bad_from, first_bad, IsValid}
+use Rattle.vector_field.specs.Pairs.{has_lower, uses, is_used, is_incident, others, comes_before, fits, bad_from, IsValid}
 use Rattle.vector_field.proofs.Members.{In, here, there, In-cases, any-In, any-some, any-none, none-In, all-In, In-all, push-In, In-left, In-last}
 use Rattle.vector_field.proofs.Lined.{Lined}
 
@@ -29,6 +27,7 @@ apart-sym p q h = (lower, upper)
     lower : Uses q p.dim p.lower → ⊥
     lower (inl u) = h.0 (inl (sym u.0, sym u.1))
     lower (inr u) = h.1 (inl (sym u.0, sym u.1))
+
     upper : Uses q (p.dim + 1) p.upper → ⊥
     upper (inl u) = h.0 (inr (sym u.0, sym u.1))
     upper (inr u) = h.1 (inr (sym u.0, sym u.1))

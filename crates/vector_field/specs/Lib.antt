@@ -7,3 +7,4 @@ pub mod Pairings
 pub mod Founds
 pub mod LastPlaces
 pub mod Searches
+pub mod Stages

@@ -1,9 +1,8 @@
 -- Maximal fields: no pair of critical cells can be added without closing a path.
-use Rattle.std.specs.Prelude.{◌≡◌, ◌↔◌, ℕ, ◌+◌, ◌≤◌, ◌&&◌, ◌||◌, List, length, Bool, true, false, Contains}
+use Rattle.std.specs.Prelude.{◌≡◌, ◌↔◌, ℕ, ◌+◌, ◌&&◌, ◌||◌, List, length, Bool, true, false}
 use Rattle.std.specs.List.{list_all}
 use Rattle.face_poset.specs.declared.cells.Pair.{Pair}
-use Rattle.face_poset.specs.Words.{upto}
-use Rattle.face_poset.specs.Poset.{count, facets_of, cofaces_of}
+use Rattle.face_poset.specs.Poset.{count, cofaces_of}
 use Rattle.vector_field.specs.Pairs.{pair, is_used, is_incident, unpaired, IsValid}
 use Rattle.vector_field.specs.Paths.{GradientPath, has_path}
 

@@ -2,7 +2,6 @@
 use Rattle.std.specs.Prelude.{◌≡◌, ℕ, ◌+◌, ◌≤◌, ◌<◌, ◌&&◌, ◌==◌, List, ◌∷◌, ◌++◌, length, map, filter, not, Bool, slice_index, true, Contains, Option, Some, None}
 use Rattle.face_poset.specs.declared.cells.Pair.{Pair}
 use Rattle.face_poset.specs.Words.{holds}
-use Rattle.face_poset.specs.Poset.{count, facets_of}
 use Rattle.vector_field.specs.CellMaps.{at}
 use Rattle.vector_field.specs.Pairs.{pair, Field, counts_of, is_incident}
 
@@ -39,6 +38,12 @@ pub record IsPairing (space : List (List (List ℕ))) (field : Field) : Type 0 w
 abbrev pub is_late : (dim : ℕ) → (numbers : List ℕ) → Pair → Bool
 is_late dim numbers p = (p.dim == dim) && holds numbers p.lower
 
--- a pair is put between those that are late, which come first in a list that is read backward, and the others
+-- a pair is put after those that are not late and before those that are
 abbrev pub inserted : List Pair → Pair → (numbers : List ℕ) → List Pair
-inserted pairs p numbers = filter (is_late p.dim numbers) pairs ++ p ∷ filter (λ q. not (is_late p.dim numbers q)) pairs
+inserted pairs p numbers = filter (λ q. not (is_late p.dim numbers q)) pairs ++ p ∷ filter (is_late p.dim numbers) pairs
+
+-- the cells of a pair are there
+pub record HasCells (counts : List ℕ) (p : Pair) : Type 0 where
+  pub low : p.dim < 3
+  pub lower : HasCell counts p.dim p.lower
+  pub upper : HasCell counts (p.dim + 1) p.upper

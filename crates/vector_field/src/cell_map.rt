@@ -1,4 +1,4 @@
-ghost use Rattle.std.specs.Prelude.{◌≡◌, ◌≤◌, ◌-◌, ℕ, map, length, slice_index_or, slice_set, replicate, Some, None, IfOk};
+ghost use Rattle.std.specs.Prelude.{◌≡◌, ◌↔◌, ◌≤◌, ◌-◌, ℕ, map, length, slice_index_or, slice_set, replicate, Some, None, IfOk, IsTrue};
 ghost use Rattle.vector_field.specs.CellMaps.{at, row, IsPut};
 ghost use Rattle.vector_field.specs.Pairs.{counts_of};
 
@@ -55,11 +55,13 @@ pub(crate) struct CellMap {
 }
 
 impl Model for CellMap {
-    ghost use Rattle.std.specs.Prelude.{List, ℕ, Option};
+    ghost use Rattle.std.specs.Prelude.{◌≡◌, length, List, ℕ, Option};
 
     ghost Value = { List (List (Option ℕ)) };
 
     ghost view = { λ s. s.rows };
+
+    ghost invariant = { λ s. length s.rows ≡ 4 };
 }
 
 impl CellMap {
@@ -75,6 +77,18 @@ impl CellMap {
         Ok(CellMap {
             rows: [vertices, edges, disks, solids],
         })
+    }
+
+    /// Whether there is such a cell.
+    pub(crate) fn has(&self, dim: u8, cell: u32) -> bool
+        ensures { IsTrue result ↔ ((1 ≤ cell) × (cell ≤ length (row self.now dim))) }
+    {
+        let rows = &self.rows;
+        if dim as usize >= rows.len() {
+            return false;
+        }
+        let row = &rows[dim as usize];
+        1 <= cell && cell as usize <= row.cells.len()
     }
 
     /// The number at a cell, which is counted from 1.

@@ -52,12 +52,7 @@ pub(crate) fn last_places<G: Graded>(
 }
 
 /// Whether no other facet of the upper is the lower of a later pair of the same dimension.
-fn comes_before_later<G: Graded>(
-    graded: &G,
-    last: &CellMap,
-    pairs: &[Pair],
-    index: usize,
-) -> bool
+fn comes_before_later<G: Graded>(graded: &G, last: &CellMap, pairs: &[Pair], index: usize) -> bool
     requires within { index < length pairs.now }
     requires incident { is_incident (G.space graded.now) (pair_at pairs.now index) ≡ true }
     requires counts { lengths last.now ≡ counts_of (G.space graded.now) }

@@ -8,19 +8,27 @@
 
 mod cell_map;
 mod checking;
+mod faces;
 mod fault;
+mod filling;
 mod found;
+mod free;
 mod laws;
 mod maximal;
 mod pair_list;
 mod pairing;
 mod partner;
+mod rest;
 mod search;
 
 pub use fault::PairFault;
+pub use free::free_field;
 pub use laws::{
     added_pair_closes, maximal_is_exact, path_is_exact, substitution_ends, valid_closes_none,
 };
 pub use maximal::is_maximal;
 pub use pair_list::PairList;
 pub use partner::Partner;
+
+#[cfg(test)]
+mod tests;

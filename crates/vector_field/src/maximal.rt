@@ -27,17 +27,15 @@ pub fn is_maximal<G: Graded>(
 }
 
 /// Whether this is so for the lowers of each dimension.
-fn are_settled<G: Graded>(
-    alloc: Global,
-    graded: &G,
-    field: &PairList,
-) -> Result<bool, AllocError>
+fn are_settled<G: Graded>(alloc: Global, graded: &G, field: &PairList) -> Result<bool, AllocError>
     requires { IsFieldOf (G.space graded.now) field.now }
     ensures { IfOk result (λ answer. answer ≡ is_maximal (G.space graded.now) field.now.pairs) }
 {
-    Ok(are_settled_at(alloc, graded, field, 0)?
-        && are_settled_at(alloc, graded, field, 1)?
-        && are_settled_at(alloc, graded, field, 2)?)
+    Ok(
+        are_settled_at(alloc, graded, field, 0)?
+            && are_settled_at(alloc, graded, field, 1)?
+            && are_settled_at(alloc, graded, field, 2)?,
+    )
 }
 
 /// Whether this is so for all lowers of a dimension.

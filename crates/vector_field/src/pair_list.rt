@@ -1,6 +1,6 @@
 ghost use Rattle.std.specs.Prelude.{◌≡◌, ◌<◌, length, slice_index, slice_index_or, IfOk, IfErr};
+ghost use Rattle.std.specs.List.Sorted.{IsStrictlyIncreasing};
 ghost use Rattle.vector_field.specs.Pairs.{counts_of, critical_of, first_bad, unpaired, IsFault, IsFieldOf, IsPartner, IsValid};
-ghost use Rattle.vector_field.specs.Pairings.{HasCell};
 
 use crate::checking::{fits, last_places};
 use crate::fault::PairFault;
@@ -105,7 +105,8 @@ impl PairList {
 
     /// The cells of a dimension that are in no pair, in increasing order.
     pub fn critical(&self, dim: u8) -> &[u32]
-        ensures { result.now ≡ critical_of self.now dim }
+        ensures cells { result.now ≡ critical_of self.now dim }
+        ensures rise { IsStrictlyIncreasing result.now }
     {
         let critical = &self.critical;
         if dim as usize >= critical.len() {
@@ -114,9 +115,8 @@ impl PairList {
         critical.get(dim as usize)
     }
 
-    /// How a cell stands, which is counted from 1.
+    /// How a cell stands, which is counted from 1. A cell that is not there is in no pair, and critical.
     pub fn partner(&self, dim: u8, cell: u32) -> Partner
-        requires { HasCell self.now.counts dim cell }
         ensures { IsPartner self.now.pairs dim cell result }
     {
         self.pairing.partner(dim, cell)
@@ -124,12 +124,7 @@ impl PairList {
 }
 
 /// The cells from 1 to `most` of a dimension that are in no pair.
-fn unpaired(
-    alloc: Global,
-    pairing: &Pairing,
-    dim: u8,
-    most: u32,
-) -> Result<Vec<u32>, AllocError>
+fn unpaired(alloc: Global, pairing: &Pairing, dim: u8, most: u32) -> Result<Vec<u32>, AllocError>
     requires { most ≡ slice_index pairing.now.counts dim }
     ensures { IfOk result (λ cells. cells.items ≡ unpaired pairing.now.pairs dim most) }
 {

@@ -1,7 +1,9 @@
-ghost use Rattle.std.specs.Prelude.{◌≡◌, ◌<◌, ◌+◌, ◌∷◌, ◌++◌, [], false, length, reverse, slice_index_or, MatchOption, Contains, IfOk, OnOk};
+ghost use Rattle.std.specs.Prelude.{◌≡◌, ◌<◌, ◌≤◌, ◌+◌, ◌∷◌, ◌++◌, [], true, false, length, slice_index_or, MatchOption, Contains, IfOk, OnOk};
 ghost use Rattle.std.specs.List.{list_any};
-ghost use Rattle.vector_field.specs.Pairs.{pair, has_lower, is_used, counts_of, IsPartner};
-ghost use Rattle.vector_field.specs.Pairings.{has_upper, HasCell, inserted};
+ghost use Rattle.face_poset.specs.Words.{holds};
+ghost use Rattle.face_poset.specs.declared.cells.Pair.{Pair};
+ghost use Rattle.vector_field.specs.Pairs.{pair, is_used, counts_of, IsPartner};
+ghost use Rattle.vector_field.specs.Pairings.{has_upper, HasCell, HasCells, inserted};
 
 use crate::cell_map::CellMap;
 use crate::found::Found;
@@ -61,14 +63,6 @@ impl Pairing {
         self.pairs[index as usize]
     }
 
-    /// The upper of the pair with this lower, if there is one.
-    fn upper_of(&self, dim: u8, cell: u32) -> Option<u32>
-        requires { HasCell self.now.counts dim cell }
-        ensures { MatchOption result (list_any (has_lower dim cell) self.now.pairs ≡ false) (λ upper. Contains self.now.pairs (pair dim cell upper)) }
-    {
-        self.uppers.get(dim, cell)
-    }
-
     /// The lower, of dimension `dim`, of the pair with this upper, if there is one.
     pub(crate) fn lower_of(&self, dim: u8, cell: u32) -> Option<u32>
         requires dim { dim < 3 }
@@ -78,11 +72,13 @@ impl Pairing {
         self.lowers.get(dim + 1, cell)
     }
 
-    /// How a cell stands.
+    /// How a cell stands. A cell that is not there is in no pair.
     pub(crate) fn partner(&self, dim: u8, cell: u32) -> Partner
-        requires { HasCell self.now.counts dim cell }
         ensures { IsPartner self.now.pairs dim cell result }
     {
+        if !self.uppers.has(dim, cell) {
+            return Partner::Critical;
+        }
         match self.uppers.get(dim, cell) {
             Some(upper) => Partner::Upper(upper),
             None => match self.lowers.get(dim, cell) {
@@ -102,9 +98,7 @@ impl Pairing {
 
     /// Puts a pair last.
     pub(crate) fn push(&mut self, pair: Pair) -> Result<(), AllocError>
-        requires dim { pair.dim < 3 }
-        requires lower { HasCell self.old.counts pair.dim pair.lower }
-        requires upper { HasCell self.old.counts (pair.dim + 1) pair.upper }
+        requires { HasCells self.old.counts pair }
         ensures counts { self.new.counts ≡ self.old.counts }
         ensures pairs { OnOk result (self.new.pairs ≡ self.old.pairs ++ pair ∷ []) }
     {
@@ -117,11 +111,66 @@ impl Pairing {
         Ok(())
     }
 
-    /// Turns the order round.
-    pub(crate) fn reverse(&mut self)
+    /// Puts these pairs last.
+    pub(crate) fn extend(&mut self, pairs: &[Pair]) -> Result<(), AllocError>
+        requires { (p : Pair) → Contains pairs.now p → HasCells self.old.counts p }
         ensures counts { self.new.counts ≡ self.old.counts }
-        ensures pairs { self.new.pairs ≡ reverse self.old.pairs }
+        ensures pairs { OnOk result (self.new.pairs ≡ self.old.pairs ++ pairs.now) }
     {
-        self.pairs.reverse();
+        for pair in pairs {
+            self.push(*pair)?;
+        }
+        Ok(())
     }
+
+    /// Puts a pair before those of its dimension whose lowers were found, and after all others.
+    pub(crate) fn insert(
+        &mut self,
+        alloc: Global,
+        pair: Pair,
+        found: &Found,
+    ) -> Result<(), AllocError>
+        requires cells { HasCells self.old.counts pair }
+        requires lowers { (p : Pair) → Contains self.old.pairs p → p.dim ≡ pair.dim → (1 ≤ p.lower) × (p.lower ≤ found.now.most) }
+        requires unused { is_used self.old.pairs pair.dim pair.lower ≡ false }
+        requires found { holds found.now.found pair.lower ≡ true }
+        ensures counts { self.new.counts ≡ self.old.counts }
+        ensures pairs { OnOk result (self.new.pairs ≡ inserted self.old.pairs pair found.now.found) }
+    {
+        if found.len() == 1 {
+            return self.push(pair);
+        }
+        if self.pairs.len() >= 4_294_967_295 {
+            return Err(AllocError);
+        }
+        let pairs = inserted(alloc, &self.pairs, pair, found)?;
+        self.pairs = pairs;
+        self.uppers.set(pair.dim, pair.lower, pair.upper);
+        self.lowers.set(pair.dim + 1, pair.upper, pair.lower);
+        Ok(())
+    }
+}
+
+/// The pairs with one more, before those of its dimension whose lowers were found, and after all others.
+fn inserted(
+    alloc: Global,
+    pairs: &[Pair],
+    pair: Pair,
+    found: &Found,
+) -> Result<Vec<Pair>, AllocError>
+    requires { (p : Pair) → Contains pairs.now p → p.dim ≡ pair.dim → (1 ≤ p.lower) × (p.lower ≤ found.now.most) }
+    ensures { IfOk result (λ all. all.items ≡ inserted pairs.now pair found.now.found) }
+{
+    let mut first = Vec::new(alloc);
+    let mut late = Vec::new(alloc);
+    for other in pairs {
+        if other.dim == pair.dim && found.holds(other.lower) {
+            late.push(*other)?;
+        } else {
+            first.push(*other)?;
+        }
+    }
+    first.push(pair)?;
+    first.extend_from_slice(&late)?;
+    Ok(first)
 }

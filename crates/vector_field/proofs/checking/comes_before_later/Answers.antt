@@ -1,17 +1,17 @@
-use Rattle.std.proofs.Common.{◌≡◌, ◌≢◌, ◌⊎◌, inl, inr, ℕ, ◌+◌, ◌-◌, ◌<◌, ◌≤◌, List, Bool, true, false, ◌||◌, not, eqb, ltb, length, get_or, take, drop, Option, None, Some, refl, ap, sym, ◌∙◌, subst, arith}
-use Rattle.std.specs.List.{list_any, list_all}
-use Rattle.std.proofs.lemmas.Bool.{false≢true, false_from_ne_true, not_from_false, not_from_true, eqb-true, eqb-false, not-true, or_cases}
+use Rattle.std.proofs.Common.{◌≡◌, ◌≢◌, inl, inr, ℕ, ◌+◌, ◌<◌, ◌≤◌, List, Bool, true, false, not, eqb, ltb, length, get_or, take, drop, Option, None, Some, ap, sym, ◌∙◌, subst, arith}
+use Rattle.std.specs.List.{list_any}
+use Rattle.std.proofs.lemmas.Bool.{false≢true, false_from_ne_true, not_from_false, eqb-true, eqb-false, not-true, or_cases}
 use Rattle.std.proofs.lemmas.List.{take_all}
 use Rattle.face_poset.specs.declared.cells.Pair.{Pair}
 use Rattle.face_poset.specs.Words.{holds}
 use Rattle.face_poset.specs.Poset.{count, facets_of, IsSpace}
 use Rattle.face_poset.proofs.Members.{holds_more}
-use Rattle.vector_field.specs.CellMaps.{at, row}
+use Rattle.vector_field.specs.CellMaps.{at}
 use Rattle.vector_field.specs.Pairs.{has_lower, is_incident, others, comes_before, counts_of}
 use Rattle.vector_field.specs.Pairings.{lengths}
 use Rattle.vector_field.specs.LastPlaces.{pair_at, AreLast}
-use Rattle.vector_field.proofs.Members.{In, at-In, In-all, all-In, filter-In, In-inside, In-holds, holds-In}
-use Rattle.vector_field.proofs.MaximalTest.{Incident, incident-true}
+use Rattle.vector_field.proofs.Members.{In, at-In, In-all, all-In, filter-In, In-inside, In-holds}
+use Rattle.vector_field.proofs.MaximalTest.{incident-true}
 use Rattle.vector_field.proofs.Paths.{other-In}
 use Rattle.vector_field.proofs.InRange.{facet-range}
 use Rattle.vector_field.proofs.Places.{length-at, later_by_place}

@@ -1,4 +1,4 @@
-use Rattle.std.proofs.Common.{◌≡◌, ℕ, ◌+◌, ◌<◌, ◌≤◌, List, Bool, true, false, ◌&&◌, ◌||◌, length, get_or, take, Option, Some, None, MatchOption, ap, sym, ◌∙◌, subst, arith}
+use Rattle.std.proofs.Common.{◌≡◌, ℕ, ◌+◌, ◌<◌, ◌≤◌, List, Bool, true, false, length, get_or, take, Option, Some, None, MatchOption, sym, ◌∙◌, subst, arith}
 use Rattle.std.specs.List.{list_all}
 use Rattle.std.proofs.lemmas.Bool.{false≢true, false_from_ne_true, or_from, and_from}
 use Rattle.std.proofs.lemmas.Option.{MatchOption-at_some, MatchOption-at_none}
@@ -16,10 +16,10 @@ use Rattle.vector_field.proofs.Fields.{pairing-from, critical-is, critical_at}
 use Rattle.vector_field.proofs.maximal.are_settled_at.Goals as goal
 
 pub open_coface-requires-clause-first : goal.open_coface-requires-clause-first
-open_coface-requires-clause-first g c = (critical_at (g.G.Graded.space c.args.graded.now) c.args.field.now c.args.dim c.critical-lowers.result.now c.loop-lower.lower-index c.requires.field (omega (arith, c.requires.dim)) c.critical-lowers.ensures c.loop-lower-test.true).0
+open_coface-requires-clause-first g c = (critical_at (g.G.Graded.space c.args.graded.now) c.args.field.now c.args.dim c.critical-lowers.result.now c.loop-lower.lower-index c.requires.field (omega (arith, c.requires.dim)) c.critical-lowers.ensures.cells c.loop-lower-test.true).0
 
 pub open_coface-requires-clause-last : goal.open_coface-requires-clause-last
-open_coface-requires-clause-last g c = (critical_at (g.G.Graded.space c.args.graded.now) c.args.field.now c.args.dim c.critical-lowers.result.now c.loop-lower.lower-index c.requires.field (omega (arith, c.requires.dim)) c.critical-lowers.ensures c.loop-lower-test.true).1
+open_coface-requires-clause-last g c = (critical_at (g.G.Graded.space c.args.graded.now) c.args.field.now c.args.dim c.critical-lowers.result.now c.loop-lower.lower-index c.requires.field (omega (arith, c.requires.dim)) c.critical-lowers.ensures.cells c.loop-lower-test.true).1
 
 pub open_coface-requires-clause-field : goal.open_coface-requires-clause-field
 open_coface-requires-clause-field g c = subst (IsPairing (g.G.Graded.space c.args.graded.now)) (sym c.pairing.ensures) (pairing-from (g.G.Graded.space c.args.graded.now) c.args.field.now c.requires.field)
@@ -38,7 +38,7 @@ open_at space field dim lowers found i upper h l e lt o =
 
 -- what the call answers, of the pairs of the field
 module _ (space : List (List (List ℕ))) (field pairing : Field) (same : pairing ≡ field) (dim lower : ℕ) (found : List ℕ) (o : Option ℕ)
-  (h : MatchOption o (list_all (is_settled space pairing.pairs dim lower) (cofaces_of space dim lower) ≡ true) (λ upper. IsOpen space pairing.pairs dim lower upper found)) where
+    (h : MatchOption o (list_all (is_settled space pairing.pairs dim lower) (cofaces_of space dim lower) ≡ true) (λ upper. IsOpen space pairing.pairs dim lower upper found)) where
   when_some : (upper : ℕ) → o ≡ Some upper → IsOpen space field.pairs dim lower upper found
   when_some upper e =
       subst (λ (f : Field). IsOpen space f.pairs dim lower upper found) same
@@ -53,7 +53,7 @@ pub returns-in-Some : goal.returns-in-Some
 returns-in-Some g c =
     let space : List (List (List ℕ)) = g.G.Graded.space c.args.graded.now in
     let lowers : List ℕ = c.critical-lowers.result.now in
-    open_at space c.args.field.now c.args.dim lowers c.open_coface.new.found.found c.loop-lower.lower-index c.in-Some.field-0 c.requires.field (omega (arith, c.requires.dim)) c.critical-lowers.ensures c.loop-lower-test.true
+    open_at space c.args.field.now c.args.dim lowers c.open_coface.new.found.found c.loop-lower.lower-index c.in-Some.field-0 c.requires.field (omega (arith, c.requires.dim)) c.critical-lowers.ensures.cells c.loop-lower-test.true
     (when_some space c.args.field.now c.pairing.result.now c.pairing.ensures c.args.dim (get_or lowers c.loop-lower.lower-index 0) c.open_coface.new.found.found c.in_ok-open_coface.field-0 c.in_ok-open_coface.ensures.coface c.in-Some.field-0 c.in-Some.is)
 
 -- one cell more is settled
@@ -75,4 +75,4 @@ all_settled space field dim i lowers h l e le k =
 
 pub returns : goal.returns
 returns g c =
-    all_settled (g.G.Graded.space c.args.graded.now) c.args.field.now c.args.dim c.loop-lower.lower-index c.critical-lowers.result.now c.requires.field (omega (arith, c.requires.dim)) c.critical-lowers.ensures (omega (arith, c.loop-lower-test.false)) c.loop-lower.invariant.1
+    all_settled (g.G.Graded.space c.args.graded.now) c.args.field.now c.args.dim c.loop-lower.lower-index c.critical-lowers.result.now c.requires.field (omega (arith, c.requires.dim)) c.critical-lowers.ensures.cells (omega (arith, c.loop-lower-test.false)) c.loop-lower.invariant.1

@@ -1,4 +1,4 @@
-use Rattle.std.proofs.Common.{◌≡◌, ◌↔◌, Bool, true, List, ℕ, IsTrue, sym, ◌∙◌}
+use Rattle.std.proofs.Common.{◌≡◌, ◌↔◌, Bool, List, ℕ, IsTrue, sym, ◌∙◌}
 use Rattle.face_poset.specs.declared.cells.Pair.{Pair}
 use Rattle.vector_field.specs.Maximal.{IsMaximal, is_maximal}
 use Rattle.vector_field.proofs.MaximalTest.{maximal_is_exact}

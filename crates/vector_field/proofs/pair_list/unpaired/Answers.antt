@@ -1,4 +1,4 @@
-use Rattle.std.proofs.Common.{◌≡◌, ◌+◌, ap, sym, ◌∙◌, ℕ, List, ◌++◌, ◌∷◌, []}
+use Rattle.std.proofs.Common.{◌+◌, ap, sym, ◌∙◌, ℕ, List, ◌++◌, ◌∷◌, []}
 use Rattle.vector_field.proofs.Unpaired.{unpaired_taken, unpaired_free}
 use Rattle.vector_field.proofs.pair_list.unpaired.Goals as goal
 use Rattle.vector_field.proofs.pair_list.unpaired.Goals.{then-not-is_used+in_ok-push, else-not-is_used}

@@ -1,8 +1,8 @@
-use Rattle.std.proofs.Common.{◌≡◌, ℕ, ◌+◌, ◌<◌, ◌≤◌, List, [], ◌∷◌, length, get_or, ap, sym, ◌∙◌, subst, arith, refl}
+use Rattle.std.proofs.Common.{◌≡◌, ℕ, ◌<◌, ◌≤◌, List, length, get_or, ap, sym, ◌∙◌, subst, arith}
 use Rattle.face_poset.specs.Poset.{count}
 use Rattle.face_poset.specs.declared.cells.Pair.{Pair}
 use Rattle.vector_field.specs.Founds.{with_number}
-use Rattle.vector_field.specs.Searches.{HasSteps, IsLed}
+use Rattle.vector_field.specs.Searches.{HasSteps}
 use Rattle.vector_field.proofs.Members.{In-holds, at-In}
 use Rattle.vector_field.proofs.Led.{IsSearch, search_begun, search_more, search_tells}
 use Rattle.vector_field.proofs.search.find_led.Goals as goal

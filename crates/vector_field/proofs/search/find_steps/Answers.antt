@@ -1,7 +1,6 @@
-use Rattle.std.proofs.Common.{◌≡◌, ◌≢◌, ◌⊎◌, inl, inr, ℕ, ◌+◌, ◌<◌, ◌≤◌, List, [], ◌∷◌, ◌++◌, take, length, get_or, ap, sym, ◌∙◌, subst, Contains, arith, refl}
+use Rattle.std.proofs.Common.{◌≡◌, ◌≢◌, ℕ, ◌+◌, ◌<◌, List, [], ◌∷◌, ◌++◌, take, length, get_or, ap, sym, ◌∙◌, subst, Contains, arith, refl}
 use Rattle.std.proofs.lemmas.List.{take_more, take_all}
 use Rattle.face_poset.specs.declared.cells.Pair.{Pair}
-use Rattle.face_poset.specs.Poset.{count}
 use Rattle.vector_field.specs.Pairs.{pair}
 use Rattle.vector_field.specs.Pairings.{has_upper}
 use Rattle.vector_field.specs.Founds.{Numbers, with_number}

@@ -1,4 +1,4 @@
-use Rattle.std.proofs.Common.{◌≡◌, ◌<◌, ◌≤◌, ◌-◌, ◌+◌, ℕ, List, [], Bool, false, length, get_or, set, drop, ap, ◌∙◌, sym, subst, arith, refl}
+use Rattle.std.proofs.Common.{◌≡◌, ◌<◌, ◌≤◌, ◌-◌, ◌+◌, ℕ, List, Bool, false, length, get_or, set, drop, ap, ◌∙◌, sym, subst, arith, refl}
 use Rattle.std.proofs.lemmas.List.{length-set, get_or_default, drop_all}
 use Rattle.vector_field.specs.Founds.{IsMarked, Numbers}
 use Rattle.vector_field.proofs.Marked.{found-within, IsLeft, left-all, left-less, left-none}

@@ -1,4 +1,4 @@
-use Rattle.std.proofs.Common.{◌≤◌, length, ap, arith}
+use Rattle.std.proofs.Common.{ap, arith}
 use Rattle.vector_field.specs.Founds.{Numbers}
 use Rattle.vector_field.proofs.Marked.{few-found}
 use Rattle.vector_field.proofs.found.Found.len.Goals as goal

@@ -1,4 +1,4 @@
-use Rattle.std.proofs.Common.{◌≤◌, ◌<◌, ◌∷◌, ◌++◌, [], List, length, ap, sym, subst, arith}
+use Rattle.std.proofs.Common.{◌≤◌, ◌∷◌, ◌++◌, [], List, length, sym, subst, arith}
 use Rattle.std.proofs.lemmas.List.{length_push}
 use Rattle.face_poset.specs.declared.cells.Pair.{Pair}
 use Rattle.vector_field.specs.Pairings.{IsNoted}

@@ -1,0 +1,11 @@
+pub mod Places
+pub mod Triples
+pub mod Neighbors
+pub mod Numbering
+pub mod Stages
+pub mod Counts
+pub mod Cube
+pub mod Rooms
+pub mod Among
+pub mod TupleSpaces
+pub mod Regularity

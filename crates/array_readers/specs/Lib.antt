@@ -1,0 +1,3 @@
+pub mod Tuples
+pub mod Torus
+pub mod Grid

@@ -1,0 +1,4 @@
+pub mod Examples
+pub mod Gather
+pub mod Rows
+pub mod Levels

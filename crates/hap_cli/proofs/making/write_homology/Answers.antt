@@ -1,0 +1,12 @@
+use Rattle.std.proofs.Common.{◌++◌, refl}
+use Rattle.face_poset.proofs.Writing.{writes_last, writes_stop}
+use Rattle.hap_cli.specs.Answers.{chains_text, betti_text}
+use Rattle.hap_cli.proofs.making.write_homology.Goals as goal
+
+pub returns-in_err-write_chains-clause-bytes : goal.returns-in_err-write_chains-clause-bytes
+returns-in_err-write_chains-clause-bytes g c =
+    writes_stop _ _ (chains_text c.args.chains.now) (betti_text c.args.numbers) (chains_text c.args.chains.now ++ betti_text c.args.numbers) _ c.from_residual.result c.from_residual.ensures.0 c.in_err-write_chains.ensures.bytes refl
+
+pub returns-clause-bytes : goal.returns-clause-bytes
+returns-clause-bytes g c =
+    writes_last _ _ _ (chains_text c.args.chains.now) (betti_text c.args.numbers) (chains_text c.args.chains.now ++ betti_text c.args.numbers) c.write_betti.result c.in_ok-write_chains.ensures.bytes.whole c.write_betti.ensures.bytes refl
