@@ -31,7 +31,7 @@ abbrev pub signed_sum : Ops → (odd : ℕ → Bool) → (element : ℕ → ℕ)
 signed_sum F odd element [] = 0
 signed_sum F odd element (n ∷ ns) = F.add (with_sign F (odd n) (element n)) (signed_sum F odd element ns)
 
-abbrev weight : Ops → (here odd : Bool) → ℕ
+abbrev pub weight : Ops → (here odd : Bool) → ℕ
 weight F here odd = cond here (with_sign F odd 1) 0
 
 abbrev delta : ℕ → ℕ → ℕ
@@ -137,7 +137,8 @@ module _ (space : List (List (List ℕ))) where
   length-facet_lists degree = length-map (chains_of space (suc degree)) (facet_numbers (chains_of space degree))
 
   module _ (F : Ops) (L : IsField F) where
-    coboundary-mark : (degree number : ℕ) (b c : List ℕ) → Member b (chains_of space degree) → Member c (chains_of space (suc degree)) → number_or_zero (chains_of space degree) b ≡ number
+    -- what the coboundary of a mark takes: the sign at a facet, else 0
+    pub coboundary-mark : (degree number : ℕ) (b c : List ℕ) → Member b (chains_of space degree) → Member c (chains_of space (suc degree)) → number_or_zero (chains_of space degree) b ≡ number
         → coboundary_at F (chains_of space degree) (mark (chains_of space degree) b) c
         ≡ weight F (holds (map (number_or_zero (chains_of space degree)) (leave_out c)) number) (stands_odd (map (number_or_zero (chains_of space degree)) (leave_out c)) number)
     coboundary-mark degree number b c mb mc e =

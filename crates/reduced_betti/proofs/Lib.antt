@@ -1,0 +1,4 @@
+pub mod Copies
+pub mod SignedRows
+pub mod Bounds
+pub mod Reduction

@@ -1,0 +1,277 @@
+-- The chains with a field of pairs as a complex with a split, and the ranks of its reduced rows.
+use Rattle.std.proofs.Common.{◌≡◌, ℕ, zero, suc, ◌+◌, ◌*◌, ◌<◌, ◌≤◌, List, [], ◌∷◌, length, replicate, get_or, refl, ap, sym, ◌∙◌, subst, arith}
+use Rattle.std.specs.List.{AllByRecursion}
+use Rattle.std.proofs.lemmas.List.{length-replicate, get_or-replicate}
+use Rattle.small_field.specs.Field.{Ops, IsField}
+use Rattle.face_poset.specs.declared.cells.Pair.{Pair}
+use Rattle.linear_algebra.specs.Vectors.{combination, entry, IsMatrix}
+use Rattle.linear_algebra.specs.Echelon.{IsReducedTo}
+use Rattle.linear_algebra.specs.Betti.{IsCohomologyBasis}
+use Rattle.linear_algebra.specs.Laws.{BasisByRanks}
+use Rattle.linear_algebra.proofs.Span.{zeros-elements}
+use Rattle.order_complex.specs.Chains.{chains_of}
+use Rattle.order_complex.specs.Complex.{complex_of, negative_in}
+use Rattle.order_complex.specs.Homology.{IsBetti}
+use Rattle.order_complex.specs.Ranks.{rows_of, rows_into}
+use Rattle.order_complex.proofs.Bases.{basis_of, composition_is_zero}
+use Rattle.order_complex.proofs.Cofaces.{count-chains}
+use Rattle.critical_laws.specs.declared.kind.Kind.{Kind}
+use Rattle.critical_laws.specs.declared.kind.Kind.TheVariants.{Critical, Lower, Upper}
+use Rattle.critical_laws.specs.Kinds.{criticals, HasNoUpper, AgreeOnUppers, ZeroOffUppers}
+use Rattle.critical_laws.specs.Split.{IsSplit}
+use Rattle.critical_laws.specs.Solutions.{IsReducedBy}
+use Rattle.critical_laws.specs.Complex.{before, IsSplitComplex, AreReduced}
+use Rattle.critical_laws.specs.Laws.{FieldsSplit, ReducedIsClosed, BettiByReducedRanks}
+use Rattle.critical_complex.specs.Stages.{Stage, empty_stage}
+use Rattle.critical_complex.specs.Splits.{stage_at, kinds_at, cells_at, rows_at, IsReductionOf, IsSplitting}
+use Rattle.plain_betti.proofs.Heights.{chains_of-four}
+use Rattle.plain_betti.specs.Numbers.{coboundary_entries}
+use Rattle.reduced_betti.specs.Ranks.{AreRanks, critical_entries}
+use Rattle.reduced_betti.proofs.Bounds.{few_entries}
+use Rattle.reduced_betti.specs.declared.ranks.Ranks.{Ranks}
+use Rattle.reduced_betti.proofs.SignedRows.{signed-rows_of}
+
+-- ---- lists
+
+past : {A : Type 0} (xs : List A) (k : ℕ) (d : A) → length xs ≤ k → get_or xs k d ≡ d
+past [] k d l = refl
+past (x ∷ xs) zero d l = absurd (omega (arith, l))
+past (x ∷ xs) (suc k) d l = past xs k d (omega (arith, l))
+
+no_items : {A : Type 0} (xs : List A) → length xs ≡ 0 → xs ≡ []
+no_items [] e = refl
+no_items (x ∷ xs) e = absurd (omega (arith, e))
+
+agree_without : (us : List Kind) (xs ys : List ℕ) → HasNoUpper us → length xs ≡ length us → length ys ≡ length us → AgreeOnUppers us xs ys
+agree_without [] xs ys h a b = tt
+agree_without (u ∷ us) [] ys h a b = absurd (omega (arith, a))
+agree_without (u ∷ us) (x ∷ xs) [] h a b = absurd (omega (arith, b))
+agree_without (Critical ∷ us) (x ∷ xs) (y ∷ ys) h a b = agree_without us xs ys h (omega (arith, a)) (omega (arith, b))
+agree_without (Lower ∷ us) (x ∷ xs) (y ∷ ys) h a b = agree_without us xs ys h (omega (arith, a)) (omega (arith, b))
+agree_without (Upper ∷ us) (x ∷ xs) (y ∷ ys) h a b = absurd h
+
+zero_off : (us : List Kind) → ZeroOffUppers us (replicate (length us) 0)
+zero_off [] = refl
+zero_off (Critical ∷ us) = (refl, zero_off us)
+zero_off (Lower ∷ us) = (refl, zero_off us)
+zero_off (Upper ∷ us) = zero_off us
+
+within : (old now a b c : ℕ) → now ≤ old + a → a ≤ b → b ≡ c → now ≤ old + c
+within old now a b c l w e = omega (arith, l, w, e)
+
+module _ (F : Ops) (L : IsField F) where
+  -- rows that are zero have rank 0
+  no_pivots : (n : ℕ) (rows : List (List ℕ)) → IsMatrix F n rows → ((i j : ℕ) → i < length rows → j < n → entry rows i j ≡ 0) → IsReducedTo F n 0 n rows rows
+  no_pivots n rows m z = record {
+    matrix = m;
+    long = refl;
+    span = record { there = λ v h. h; back = λ v h. h };
+    pivots = [];
+    rank_is = refl;
+    reduced = record {
+      few = omega arith;
+      within = λ i h. absurd (omega arith);
+      rising = λ i j h k. absurd (omega arith);
+      one = λ i h. absurd (omega arith);
+      alone = λ i j h k ne. absurd (omega arith);
+      first = λ i j h k. absurd (omega arith);
+      zero = λ i j h k l. z i j k l;
+    };
+  }
+
+  combinations_of_nothing : (n : ℕ) (rs : List (List ℕ)) → AllByRecursion (λ r. combination F n r [] ≡ replicate n 0) rs
+  combinations_of_nothing n [] = tt
+  combinations_of_nothing n ([] ∷ rs) = (refl, combinations_of_nothing n rs)
+  combinations_of_nothing n ((c ∷ cs) ∷ rs) = (refl, combinations_of_nothing n rs)
+
+  nil_rows : (n : ℕ) → IsMatrix F 0 (replicate n [])
+  nil_rows zero = tt
+  nil_rows (suc n) = (record { long = refl; elements = tt }, nil_rows n)
+
+  empty_split : IsSplit F 0 0 [] [] []
+  empty_split = record {
+    matrix = tt;
+    long = refl;
+    below = refl;
+    above = refl;
+    settles = λ t v. ([], record { long = refl; elements = tt }, refl, tt);
+    carries = λ t v. ([], record { long = refl; elements = tt }, refl, tt);
+  }
+
+  first_split : (us : List Kind) → HasNoUpper us → IsSplit F 0 (length us) [] [] us
+  first_split us h = record {
+    matrix = tt;
+    long = refl;
+    below = refl;
+    above = refl;
+    settles = λ t v. ([], record { long = refl; elements = tt }, refl, agree_without us (replicate (length us) 0) t h (length-replicate (length us) 0) v.long);
+    carries = λ t v. (replicate (length us) 0, record { long = length-replicate (length us) 0; elements = zeros-elements F L (length us) }, zero_off us, tt);
+  }
+
+  -- reduced rows without columns, and no reduced rows
+  last_reduced : (n m : ℕ) (rows : List (List ℕ)) (ts us : List Kind) → us ≡ [] → IsReducedBy F n m rows ts us (replicate (criticals ts) [])
+  last_reduced n m rows ts us e =
+      subst (λ (vs : List Kind). IsReducedBy F n m rows ts vs (replicate (criticals ts) [])) (sym e)
+      (record { matrix = nil_rows (criticals ts); long = length-replicate (criticals ts) []; each = λ i x l h. get_or-replicate (criticals ts) i [] [] l })
+
+  none_reduced : (n m : ℕ) (rows : List (List ℕ)) (ts us : List Kind) → ts ≡ [] → IsReducedBy F n m rows ts us []
+  none_reduced n m rows ts us e =
+      subst (λ (vs : List Kind). IsReducedBy F n m rows vs us []) (sym e)
+      (record { matrix = tt; long = refl; each = λ i x l h. absurd (omega (arith, l)) })
+
+module _ (F : Ops) (L : IsField F) (space : List (List (List ℕ))) (pairs : List Pair) (stages : List Stage) (h : IsReductionOf F (complex_of space) (negative_in space) pairs stages) where
+  pub cells_are : (degree : ℕ) → degree ≤ 4 → cells_at stages degree ≡ length (chains_of space degree)
+  cells_are zero l = (h.each 0 (omega arith)).kinds.long ∙ count-chains space 0 (omega arith)
+  cells_are (suc zero) l = (h.each 1 (omega arith)).kinds.long ∙ count-chains space 1 (omega arith)
+  cells_are (suc (suc zero)) l = (h.each 2 (omega arith)).kinds.long ∙ count-chains space 2 (omega arith)
+  cells_are (suc (suc (suc zero))) l = (h.each 3 (omega arith)).kinds.long ∙ count-chains space 3 (omega arith)
+  cells_are (suc (suc (suc (suc zero)))) l = (h.each 4 (omega arith)).kinds.long ∙ ap (λ (cs : List (List ℕ)). length cs) (sym (chains_of-four space))
+  cells_are (suc (suc (suc (suc (suc degree))))) l = absurd (omega (arith, l))
+
+  -- the reduced coboundaries have at most the entries of the coboundaries of all chains
+  pub steps-within : (old now : ℕ) → now ≤ old + critical_entries stages → now ≤ old + coboundary_entries space
+  steps-within old now l =
+      let w = few_entries (kinds_at stages 0) (kinds_at stages 1) (kinds_at stages 2) (kinds_at stages 3) in
+      let e : cells_at stages 0 * cells_at stages 1 + cells_at stages 1 * cells_at stages 2 + cells_at stages 2 * cells_at stages 3 ≡ coboundary_entries space =
+      ap (λ n. n * cells_at stages 1 + cells_at stages 1 * cells_at stages 2 + cells_at stages 2 * cells_at stages 3) (cells_are 0 (omega arith))
+      ∙ ap (λ n. length (chains_of space 0) * n + n * cells_at stages 2 + cells_at stages 2 * cells_at stages 3) (cells_are 1 (omega arith))
+      ∙ ap (λ n. length (chains_of space 0) * length (chains_of space 1) + length (chains_of space 1) * n + n * cells_at stages 3) (cells_are 2 (omega arith))
+      ∙ ap (λ n. length (chains_of space 0) * length (chains_of space 1) + length (chains_of space 1) * length (chains_of space 2) + length (chains_of space 2) * n) (cells_are 3 (omega arith)) in
+      within old now (critical_entries stages) (cells_at stages 0 * cells_at stages 1 + cells_at stages 1 * cells_at stages 2 + cells_at stages 2 * cells_at stages 3) (coboundary_entries space) l w e
+
+  rows_are : (degree : ℕ) → degree ≤ 3 → rows_at stages degree ≡ rows_of F space degree
+  rows_are degree l = (h.each degree (omega arith)).rows ∙ signed-rows_of F L space degree l
+
+  -- no cells from degree 4 on
+  no_kinds : (degree : ℕ) → 4 ≤ degree → kinds_at stages degree ≡ []
+  no_kinds degree l = by degree l
+    where
+      by : (k : ℕ) → 4 ≤ k → kinds_at stages k ≡ []
+      by (suc (suc (suc (suc zero)))) l = no_items (kinds_at stages 4) (h.each 4 (omega arith)).kinds.long
+      by (suc (suc (suc (suc (suc k))))) l = ap (λ (s : Stage). s.kinds) (past stages (suc (suc (suc (suc (suc k))))) empty_stage (omega (arith, h.long)))
+      by _ l = absurd (omega (arith, l))
+
+  no_rows : (degree : ℕ) → 4 ≤ degree → rows_at stages degree ≡ []
+  no_rows degree l = by degree l
+    where
+      by : (k : ℕ) → 4 ≤ k → rows_at stages k ≡ []
+      by (suc (suc (suc (suc zero)))) l = (h.each 4 (omega arith)).rows
+      by (suc (suc (suc (suc (suc k))))) l = ap (λ (s : Stage). s.rows) (past stages (suc (suc (suc (suc (suc k))))) empty_stage (omega (arith, h.long)))
+      by _ l = absurd (omega (arith, l))
+
+  -- ---- the complex, with a degree without cells before it
+
+  abbrev pub cells : ℕ → ℕ
+  cells = before 0 (cells_at stages)
+
+  abbrev pub rows : ℕ → List (List ℕ)
+  rows = before [] (rows_at stages)
+
+  abbrev pub kinds : ℕ → List Kind
+  kinds = before [] (kinds_at stages)
+
+  module _ (s : IsSplitting F stages) (split : FieldsSplit F) where
+    split_at : (k : ℕ) → IsSplit F (cells_at stages k) (cells_at stages (suc k)) (rows_at stages k) (kinds_at stages k) (kinds_at stages (suc k))
+    split_at zero = split (cells_at stages 0) (cells_at stages 1) (rows_at stages 0) (kinds_at stages 0) (kinds_at stages 1) (stage_at stages 0).pairs (s.paired 0 (omega arith)).matching
+    split_at (suc zero) = split (cells_at stages 1) (cells_at stages 2) (rows_at stages 1) (kinds_at stages 1) (kinds_at stages 2) (stage_at stages 1).pairs (s.paired 1 (omega arith)).matching
+    split_at (suc (suc zero)) = split (cells_at stages 2) (cells_at stages 3) (rows_at stages 2) (kinds_at stages 2) (kinds_at stages 3) (stage_at stages 2).pairs (s.paired 2 (omega arith)).matching
+    split_at (suc (suc (suc zero))) = split (cells_at stages 3) (cells_at stages 4) (rows_at stages 3) (kinds_at stages 3) (kinds_at stages 4) (stage_at stages 3).pairs (s.paired 3 (omega arith)).matching
+    split_at (suc (suc (suc (suc k)))) =
+        let d : ℕ = suc (suc (suc (suc k))) in
+        subst (λ (ts : List Kind). IsSplit F (length ts) (cells_at stages (suc d)) (rows_at stages d) ts (kinds_at stages (suc d))) (sym (no_kinds d (omega arith)))
+        (subst (λ (us : List Kind). IsSplit F 0 (length us) (rows_at stages d) [] us) (sym (no_kinds (suc d) (omega arith)))
+        (subst (λ (rs : List (List ℕ)). IsSplit F 0 0 rs [] []) (sym (no_rows d (omega arith))) (empty_split F L)))
+
+    splits : (k : ℕ) → IsSplit F (cells k) (cells (suc k)) (rows k) (kinds k) (kinds (suc k))
+    splits zero = first_split F L (kinds_at stages 0) s.bottom
+    splits (suc k) = split_at k
+
+    closed_low : (k : ℕ) → k ≤ 2 → AllByRecursion (λ r. combination F (cells_at stages (suc (suc k))) r (rows_at stages (suc k)) ≡ replicate (cells_at stages (suc (suc k))) 0) (rows_at stages k)
+    closed_low k l =
+        subst (λ (rs : List (List ℕ)). AllByRecursion (λ r. combination F (cells_at stages (suc (suc k))) r (rows_at stages (suc k)) ≡ replicate (cells_at stages (suc (suc k))) 0) rs) (sym (rows_are k (omega arith)))
+        (subst (λ (ns : List (List ℕ)). AllByRecursion (λ r. combination F (cells_at stages (suc (suc k))) r ns ≡ replicate (cells_at stages (suc (suc k))) 0) (rows_of F space k)) (sym (rows_are (suc k) (omega arith)))
+        (subst (λ (n : ℕ). AllByRecursion (λ r. combination F n r (rows_of F space (suc k)) ≡ replicate n 0) (rows_of F space k)) (sym (cells_are (suc (suc k)) (omega arith))) (composition_is_zero F L space (suc k))))
+
+    closed_high : (k : ℕ) → 3 ≤ k → AllByRecursion (λ r. combination F (cells_at stages (suc (suc k))) r (rows_at stages (suc k)) ≡ replicate (cells_at stages (suc (suc k))) 0) (rows_at stages k)
+    closed_high k l =
+        subst (λ (ns : List (List ℕ)). AllByRecursion (λ r. combination F (cells_at stages (suc (suc k))) r ns ≡ replicate (cells_at stages (suc (suc k))) 0) (rows_at stages k)) (sym (no_rows (suc k) (omega arith)))
+        (combinations_of_nothing F L (cells_at stages (suc (suc k))) (rows_at stages k))
+
+    closed : (k : ℕ) → AllByRecursion (λ r. combination F (cells (suc (suc k))) r (rows (suc k)) ≡ replicate (cells (suc (suc k))) 0) (rows k)
+    closed zero = tt
+    closed (suc zero) = closed_low 0 (omega arith)
+    closed (suc (suc zero)) = closed_low 1 (omega arith)
+    closed (suc (suc (suc zero))) = closed_low 2 (omega arith)
+    closed (suc (suc (suc (suc k)))) = closed_high (suc (suc (suc k))) (omega arith)
+
+    complex : IsSplitComplex F cells rows kinds
+    complex = record { closed = closed; splits = splits; bottom = tt }
+
+    -- ---- its reduced rows
+
+    module _ (ranks : Ranks) (r : AreRanks F stages ranks) where
+      abbrev reduced : ℕ → List (List ℕ)
+      reduced zero = []
+      reduced (suc zero) = r.first.rows
+      reduced (suc (suc zero)) = r.second.rows
+      reduced (suc (suc (suc zero))) = r.third.rows
+      reduced (suc (suc (suc (suc zero)))) = replicate (criticals (kinds_at stages 3)) []
+      reduced (suc (suc (suc (suc (suc k))))) = []
+
+      are_reduced : AreReduced F cells rows kinds reduced
+      are_reduced zero = none_reduced F L 0 (cells_at stages 0) [] [] (kinds_at stages 0) refl
+      are_reduced (suc zero) = r.first.reduced
+      are_reduced (suc (suc zero)) = r.second.reduced
+      are_reduced (suc (suc (suc zero))) = r.third.reduced
+      are_reduced (suc (suc (suc (suc zero)))) = last_reduced F L (cells_at stages 3) (cells_at stages 4) (rows_at stages 3) (kinds_at stages 3) (kinds_at stages 4) (no_kinds 4 (omega arith))
+      are_reduced (suc (suc (suc (suc (suc k))))) =
+          let d : ℕ = suc (suc (suc (suc k))) in
+          none_reduced F L (cells_at stages d) (cells_at stages (suc d)) (rows_at stages d) (kinds_at stages d) (kinds_at stages (suc d)) (no_kinds d (omega arith))
+
+      -- the rank into a degree
+      abbrev pub IsInto : (degree rank : ℕ) → Type 0
+      IsInto degree rank = (echelon : List (List ℕ)) × IsReducedTo F (criticals (kinds (suc degree))) rank (criticals (kinds (suc degree))) (reduced degree) echelon
+
+      pub into_zero : IsInto 0 0
+      into_zero = ([], no_pivots F L (criticals (kinds_at stages 0)) [] tt (λ i j l m. absurd (omega (arith, l))))
+
+      pub into_one : IsInto 1 ranks.first
+      into_one = (r.first.echelon, r.first.is)
+
+      pub into_two : IsInto 2 ranks.second
+      into_two = (r.second.echelon, r.second.is)
+
+      pub into_three : IsInto 3 ranks.third
+      into_three = (r.third.echelon, r.third.is)
+
+      pub into_four : IsInto 4 0
+      into_four =
+          let nils : List (List ℕ) = replicate (criticals (kinds_at stages 3)) [] in
+          (nils, subst (λ (us : List Kind). IsReducedTo F (criticals us) 0 (criticals us) nils nils) (sym (no_kinds 4 (omega arith))) (no_pivots F L 0 nils (nil_rows F L (criticals (kinds_at stages 3))) (λ i j l m. absurd (omega (arith, m)))))
+
+      -- both ranks together are at most the number of critical cells
+      pub ranks-fit : BasisByRanks F → ReducedIsClosed F → (degree a b count : ℕ) → count ≡ criticals (kinds_at stages degree) → IsInto degree a → IsInto (suc degree) b → a + b ≤ count
+      ranks-fit law still degree a b count e p q =
+          let n : ℕ = criticals (kinds (suc degree)) in
+          let m : ℕ = criticals (kinds (suc (suc degree))) in
+          let one = are_reduced degree in
+          let two = are_reduced (suc degree) in
+          let basis = law n m a b (reduced degree) (reduced (suc degree)) p.0 q.0 one.matrix two.matrix two.long (still cells rows kinds reduced complex are_reduced degree) p.1 q.1 in
+          omega (arith, basis.count, two.long, e)
+
+      into_rows : (degree : ℕ) → degree ≤ 3 → rows degree ≡ rows_into F space degree
+      into_rows zero l = refl
+      into_rows (suc degree) l = rows_are degree (omega arith)
+
+      -- the Betti number is what they leave
+      pub betti-left : BettiByReducedRanks F → (degree a b count betti : ℕ) → degree ≤ 3 → count ≡ criticals (kinds_at stages degree) → IsInto degree a → IsInto (suc degree) b → betti + a + b ≡ count → IsBetti F space degree betti
+      betti-left law degree a b count betti small e p q left =
+          let found = law cells rows kinds reduced complex are_reduced degree betti a b p.0 q.0 p.1 q.1 (left ∙ e) in
+          let is : IsCohomologyBasis F (cells_at stages (suc degree)) (rows degree) (rows_at stages degree) found.0 = found.1 in (
+            found.0,
+            basis_of F L space degree found.0
+                (subst (λ (n : ℕ). IsCohomologyBasis F n (rows_into F space degree) (rows_of F space degree) found.0) (cells_are (suc degree) (omega arith))
+                (subst (λ (ns : List (List ℕ)). IsCohomologyBasis F (cells_at stages (suc degree)) (rows_into F space degree) ns found.0) (rows_are degree small)
+                (subst (λ (ls : List (List ℕ)). IsCohomologyBasis F (cells_at stages (suc degree)) ls (rows_at stages degree) found.0) (into_rows degree small) is))),
+            found.2,
+          )

@@ -1,0 +1,96 @@
+// Betti numbers by the ranks of the reduced coboundaries.
+ghost use Rattle.std.specs.Prelude.{◌≡◌, ◌≤◌, ◌<◌, ◌+◌, IsTrue, IfOk, IfErr, OnOk};
+ghost use Rattle.small_field.specs.Prime.{mod_ops};
+ghost use Rattle.order_complex.specs.Chains.{chain_count};
+ghost use Rattle.order_complex.specs.Complex.{IsRefused};
+ghost use Rattle.plain_betti.specs.Numbers.{AreBetti, coboundary_entries, is_modulus};
+
+use crate::ranks::{critical_count, reduced_ranks};
+use critical_complex::Reduced;
+use critical_laws::{betti_by_reduced_ranks, fields_split, reduced_is_closed};
+use face_poset::Space;
+use hap_outside::Steps;
+use linear_algebra::basis_by_ranks;
+use order_complex::{ChainFault, Chains};
+use plain_betti::Betti;
+use small_field::{Field, Gfp};
+use std::alloc::{AllocError, Global};
+use std::sync::ledger::Ledger;
+use vector_field::free_field;
+
+/// The number of critical cells of a degree less the ranks of the reduced coboundaries into and out of it.
+fn cells_left(cells: u32, rank_last: u32, rank_next: u32) -> u32
+    requires { rank_last + rank_next ≤ cells }
+    ensures { result + rank_last + rank_next ≡ cells }
+{
+    cells - rank_last - rank_next
+}
+
+/// The Betti numbers of the order complex of a space, with coefficients in a field: in each degree the length
+/// of a basis of the cocycles modulo coboundaries (simplicial cohomology; textbook). Each row addition of the
+/// eliminations is one step; there are at most rows times columns of the three coboundaries of all chains,
+/// also where memory is wanting.
+pub fn betti_numbers<F: Field, L: Ledger>(
+    alloc: Global,
+    chains: &Chains<'_>,
+    steps: &mut Steps<L>,
+) -> Result<Betti, AllocError>
+    ensures betti { IfOk result (AreBetti F.ops chains.now) }
+    ensures steps { steps.new ≤ steps.old + coboundary_entries chains.now }
+{
+    betti_by_reduced_ranks::<F>();
+    reduced_is_closed::<F>();
+    fields_split::<F>();
+    basis_by_ranks::<F>();
+    let field = free_field(alloc, chains)?;
+    let reduced = Reduced::<F>::new(alloc, chains, &field)?;
+    let ranks = reduced_ranks(alloc, &reduced, steps)?;
+    Ok(Betti {
+        zero: cells_left(critical_count(&reduced, 0), 0, ranks.first),
+        one: cells_left(critical_count(&reduced, 1), ranks.first, ranks.second),
+        two: cells_left(critical_count(&reduced, 2), ranks.second, ranks.third),
+        three: cells_left(critical_count(&reduced, 3), ranks.third, 0),
+    })
+}
+
+/// The Betti numbers modulo 2, 3, 5 or 7.
+pub fn betti_modulo<L: Ledger>(
+    alloc: Global,
+    chains: &Chains<'_>,
+    modulus: u8,
+    steps: &mut Steps<L>,
+) -> Result<Betti, AllocError>
+    requires modulus { IsTrue (is_modulus modulus) }
+    ensures betti { IfOk result (AreBetti (mod_ops modulus) chains.now) }
+    ensures steps { steps.new ≤ steps.old + coboundary_entries chains.now }
+{
+    match modulus {
+        2 => betti_numbers::<Gfp<2>, L>(alloc, chains, steps),
+        3 => betti_numbers::<Gfp<3>, L>(alloc, chains, steps),
+        5 => betti_numbers::<Gfp<5>, L>(alloc, chains, steps),
+        _ => betti_numbers::<Gfp<7>, L>(alloc, chains, steps),
+    }
+}
+
+/// The Betti numbers of a space modulo 2, 3, 5 or 7. A refusal comes where there are more chains than the limit,
+/// carries their number, and takes no step.
+pub fn betti_of<L: Ledger>(
+    alloc: Global,
+    space: &Space,
+    modulus: u8,
+    limit: u32,
+    steps: &mut Steps<L>,
+) -> Result<Betti, ChainFault>
+    requires modulus { IsTrue (is_modulus modulus) }
+    ensures betti { IfOk result (AreBetti (mod_ops modulus) space.now) }
+    ensures within { OnOk result (chain_count space.now ≤ limit) }
+    ensures refused { IfErr result (IsRefused (chain_count space.now) limit) }
+    ensures steps { steps.new ≤ steps.old + coboundary_entries space.now }
+    ensures untouched { limit < chain_count space.now → steps.new ≡ steps.old }
+{
+    let chains = Chains::new(alloc, space, limit)?;
+    match betti_modulo(alloc, &chains, modulus, steps) {
+        Ok(numbers) => Ok(numbers),
+        Err(_) => Err(ChainFault::Memory),
+    }
+}
