@@ -14,6 +14,8 @@ mod chains;
 #[cfg(test)]
 mod check;
 #[cfg(test)]
+mod fields;
+#[cfg(test)]
 mod make;
 #[cfg(test)]
 mod outside;
