@@ -10,11 +10,11 @@ use Rattle.gap_text.specs.Value.{Value}
 use Rattle.face_poset.specs.declared.fault.SpaceFault.{SpaceFault}
 use Rattle.face_poset.specs.Reader.{space_of}
 use Rattle.array_values.specs.declared.fault.ArrayFault.{ArrayFault}
-use Rattle.array_values.specs.declared.fault.ArrayFault.TheVariants.{BadDimension}
 use Rattle.voxel_words.specs.Voxels.{cubical_of}
 use Rattle.arc_complements.specs.Complements.{arcs_space_of}
+use Rattle.permutahedral_arrays.specs.Permutahedra.{permutahedral_of}
 use Rattle.hap_words.specs.declared.command.Kind.{Kind}
-use Rattle.hap_words.specs.declared.command.Kind.TheVariants.{Boundary, Cubical, Arcs}
+use Rattle.hap_words.specs.declared.command.Kind.TheVariants.{Boundary, Cubical, Permutahedral, Arcs}
 use Rattle.regular_check.specs.declared.fault.RegularFault.{RegularFault}
 use Rattle.regular_check.specs.Rules.{first_fault}
 use Rattle.order_complex.specs.Chains.{chain_count}
@@ -32,12 +32,12 @@ abbrev pub of_array : Result (List (List (List ℕ))) ArrayFault → Result (Lis
 of_array (Ok space) = Ok space
 of_array (Err fault) = Err (Array fault)
 
--- the space of a value; an input of the other kind is refused with the words, before it is read
+-- the space of a value
 abbrev pub space_of_kind : Kind → Value → Result (List (List (List ℕ))) Refusal
 space_of_kind Boundary value = of_value (space_of value)
 space_of_kind Cubical value = of_array (cubical_of value)
+space_of_kind Permutahedral value = of_array (permutahedral_of value)
 space_of_kind Arcs value = of_array (arcs_space_of value)
-space_of_kind other value = Err (Array BadDimension)
 
 abbrev pub of_text : Kind → Result Value TextFault → Result (List (List (List ℕ))) Refusal
 of_text kind (Ok value) = space_of_kind kind value

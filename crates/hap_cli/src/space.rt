@@ -12,17 +12,16 @@ use crate::input::{MOST_BYTES, read_input};
 use crate::outcome::Outcome;
 use crate::refusal::Refusal;
 use arc_complements::arcs;
-use array_values::ArrayFault;
 use cubical_arrays::cubical;
 use face_poset::{Space, from_nest};
 use gap_text::{Nest, parse};
 use hap_outside::{ReadAll, Source};
 use hap_words::{Input, Kind};
+use permutahedral_arrays::permutahedral;
 use regular_check::{Regular, check};
 use std::alloc::Global;
 
-/// The space of a nested list, by the kind of the input. An input of a kind that is not built is refused
-/// with the words, before it is read.
+/// The space of a nested list, by the kind of the input.
 fn space_of_nest(alloc: Global, kind: Kind, nest: &Nest) -> Result<Space, Outcome>
     ensures space { IfOk result (λ space. space_of_kind kind (view nest.now) ≡ Ok space) }
     ensures outcome { IfErr result (Fails (space_of_kind kind (view nest.now))) }
@@ -30,8 +29,8 @@ fn space_of_nest(alloc: Global, kind: Kind, nest: &Nest) -> Result<Space, Outcom
     match kind {
         Kind::Boundary => Ok(from_nest(alloc, nest)?),
         Kind::Cubical => Ok(cubical(alloc, nest)?),
+        Kind::Permutahedral => Ok(permutahedral(alloc, nest)?),
         Kind::Arcs => Ok(arcs(alloc, nest)?),
-        Kind::Permutahedral => Err(Outcome::Refused(Refusal::Array(ArrayFault::BadDimension))),
     }
 }
 

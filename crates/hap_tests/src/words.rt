@@ -8,7 +8,7 @@ const USAGE: &[u8] =
 #[test]
 fn other_words_are_usage(rt: HostRuntime) -> Result<(), Fail> {
     let alloc = rt.alloc();
-    let lines: [&[&str]; 28] = [
+    let lines: [&[&str]; 27] = [
         &[],
         &["cells", "--mod", "2"],
         &["betti", "--mod", "6"],
@@ -35,7 +35,6 @@ fn other_words_are_usage(rt: HostRuntime) -> Result<(), Fail> {
         &["cells", "--kind=cubical", "--kind=cubical"],
         &["verify", "--kind", "boundary"],
         &["cup"],
-        &["check", "--kind", "permutahedral"],
         &["cells", "--sheets", "2"],
     ];
     for line in lines {

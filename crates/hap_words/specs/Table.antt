@@ -175,22 +175,16 @@ verb_is_built verb.Betti = true
 verb_is_built verb.Make = true
 verb_is_built other = false
 
-abbrev pub kind_is_built : Kind → Bool
-kind_is_built Boundary = true
-kind_is_built Cubical = true
-kind_is_built Arcs = true
-kind_is_built other = false
-
 abbrev pub is_built : Asked → Bool
-is_built (cells s) = verb_is_built verb.Cells && kind_is_built s.kind
-is_built (check s) = verb_is_built verb.Check && kind_is_built s.kind
-is_built (betti s p) = verb_is_built verb.Betti && kind_is_built s.kind
-is_built (cup s p) = verb_is_built verb.Cup && kind_is_built s.kind
+is_built (cells s) = verb_is_built verb.Cells
+is_built (check s) = verb_is_built verb.Check
+is_built (betti s p) = verb_is_built verb.Betti
+is_built (cup s p) = verb_is_built verb.Cup
 is_built (verify name) = verb_is_built verb.Verify
-is_built (group s) = verb_is_built verb.Group && kind_is_built s.kind
-is_built (covers s n b t) = verb_is_built verb.Covers && kind_is_built s.kind
-is_built (cover s n i b p) = verb_is_built verb.Cover && kind_is_built s.kind
-is_built (report s p n b t) = verb_is_built verb.Report && kind_is_built s.kind
+is_built (group s) = verb_is_built verb.Group
+is_built (covers s n b t) = verb_is_built verb.Covers
+is_built (cover s n i b p) = verb_is_built verb.Cover
+is_built (report s p n b t) = verb_is_built verb.Report
 is_built (make n p) = verb_is_built verb.Make
 
 abbrev pub if_built : Option Asked → Option Asked

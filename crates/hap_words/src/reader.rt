@@ -11,7 +11,7 @@ use crate::command::{Command, Input, Kind};
 use crate::fault::WordsFault;
 use crate::line::match_words;
 use crate::table::{
-    Name, Verb, is_kind_built, is_taken, is_verb_built, kind_of_word, option_word, verb_of_word,
+    Name, Verb, is_taken, is_verb_built, kind_of_word, option_word, verb_of_word,
 };
 use crate::texts::read_number_between;
 use clap::ArgMatches;
@@ -273,30 +273,24 @@ pub fn read_any(alloc: Global, words: &[String]) -> Result<Command, WordsFault>
     }
 }
 
-fn is_input_built(verb: Verb, input: &Input) -> bool
-    ensures { result ≡ (table.verb_is_built verb && table.kind_is_built input.now.kind) }
-{
-    is_verb_built(verb) && is_kind_built(input.kind)
-}
-
 fn is_built(command: &Command) -> bool
     ensures { result ≡ table.is_built (asked_of command.now) }
 {
     match command {
-        Command::Cells { input } => is_input_built(Verb::Cells, input),
-        Command::Check { input } => is_input_built(Verb::Check, input),
-        Command::Betti { input, .. } => is_input_built(Verb::Betti, input),
-        Command::Cup { input, .. } => is_input_built(Verb::Cup, input),
+        Command::Cells { .. } => is_verb_built(Verb::Cells),
+        Command::Check { .. } => is_verb_built(Verb::Check),
+        Command::Betti { .. } => is_verb_built(Verb::Betti),
+        Command::Cup { .. } => is_verb_built(Verb::Cup),
         Command::Verify { .. } => is_verb_built(Verb::Verify),
-        Command::Group { input } => is_input_built(Verb::Group, input),
-        Command::Covers { input, .. } => is_input_built(Verb::Covers, input),
-        Command::Cover { input, .. } => is_input_built(Verb::Cover, input),
-        Command::Report { input, .. } => is_input_built(Verb::Report, input),
+        Command::Group { .. } => is_verb_built(Verb::Group),
+        Command::Covers { .. } => is_verb_built(Verb::Covers),
+        Command::Cover { .. } => is_verb_built(Verb::Cover),
+        Command::Report { .. } => is_verb_built(Verb::Report),
         Command::Make { .. } => is_verb_built(Verb::Make),
     }
 }
 
-/// The command that the words, those after the program's name, ask for, where the command and its kind of input are built.
+/// The command that the words, those after the program's name, ask for, where the command is built.
 pub fn read(alloc: Global, words: &[String]) -> Result<Command, WordsFault>
     ensures asked { Reads asked_of (table.read (map string_bytes words.now)) result }
     ensures built { IfOk result (λ command. table.is_built (asked_of command) ≡ true) }

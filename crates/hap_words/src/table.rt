@@ -1,7 +1,7 @@
 // The commands by their words, and the options that each takes.
 ghost use Rattle.std.specs.Prelude.{◌≡◌};
 ghost use Rattle.hap_words.specs.Texts.{named};
-ghost use Rattle.hap_words.specs.Table.{verbs, kinds, word_of, takes, verb_is_built, kind_is_built};
+ghost use Rattle.hap_words.specs.Table.{verbs, kinds, word_of, takes, verb_is_built};
 
 use crate::command::Kind;
 use crate::texts::find_named;
@@ -113,11 +113,4 @@ pub fn is_verb_built(verb: Verb) -> bool
     ensures { result ≡ verb_is_built verb }
 {
     matches!(verb, Verb::Cells | Verb::Check | Verb::Betti | Verb::Make)
-}
-
-/// Whether the kind of input is built.
-pub fn is_kind_built(kind: Kind) -> bool
-    ensures { result ≡ kind_is_built kind }
-{
-    matches!(kind, Kind::Boundary | Kind::Cubical | Kind::Arcs)
 }
