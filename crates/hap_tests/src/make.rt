@@ -25,24 +25,40 @@ fn tori_are_made_and_read_again(rt: HostRuntime) -> Result<(), Fail> {
 #[test]
 fn tori_have_a_summary(rt: HostRuntime) -> Result<(), Fail> {
     let alloc = rt.alloc();
-    for (size, status, out, err) in [
+    for (size, modulus, status, out, err) in [
         (
+            "2",
             "2",
             0,
             b"torus 2\ncells 8 24 24 8\neuler 0\nchains 64 448 768 384\nbetti 1 3 3 1\n".as_slice(),
             b"".as_slice(),
         ),
         (
+            "2",
+            "7",
+            0,
+            b"torus 2\ncells 8 24 24 8\neuler 0\nchains 64 448 768 384\nbetti 1 3 3 1\n",
+            b"",
+        ),
+        (
             "3",
+            "2",
             0,
             b"torus 3\ncells 27 81 81 27\neuler 0\nchains 216 1512 2592 1296\nbetti 1 3 3 1\n",
             b"",
         ),
-        ("15", 5, b"", b"hap: limit: 702000 chains\n"),
+        (
+            "8",
+            "3",
+            0,
+            b"torus 8\ncells 512 1536 1536 512\neuler 0\nchains 4096 28672 49152 24576\nbetti 1 3 3 1\n",
+            b"",
+        ),
+        ("15", "2", 5, b"", b"hap: limit: 702000 chains\n"),
     ] {
         let told = run_text(
             alloc,
-            &["make", "--mod", "2", "--size", size],
+            &["make", "--mod", modulus, "--size", size],
             b"none of it",
         )?;
         assert_eq!(rt; told.status, status);
