@@ -1,3 +1,5 @@
 pub mod Examples
 pub mod Growing
 pub mod Loops
+pub mod Marked
+pub mod Found
