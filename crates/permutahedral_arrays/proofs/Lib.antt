@@ -3,3 +3,4 @@ pub mod Growing
 pub mod Loops
 pub mod Marked
 pub mod Found
+pub mod Images
