@@ -4,3 +4,4 @@ pub mod Loops
 pub mod Marked
 pub mod Found
 pub mod Images
+pub mod Boxed
