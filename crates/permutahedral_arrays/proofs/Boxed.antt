@@ -1,5 +1,5 @@
 -- All cells of a box, by the places of their points.
-use Rattle.std.proofs.Common.{◌≡◌, ℕ, zero, suc, ◌+◌, ◌*◌, ◌/◌, ◌%◌, ◌<◌, ◌≤◌, List, [], ◌∷◌, ◌++◌, Bool, true, false, ◌&&◌, eqb, nat_lt, ltb-true, lt-ltb, eqb-true, eq-eqb, map, filter, length, get_or, refl, ap, sym, ◌∙◌, arith}
+use Rattle.std.proofs.Common.{◌≡◌, ℕ, ◌+◌, ◌*◌, ◌/◌, ◌%◌, ◌<◌, ◌≤◌, List, [], ◌∷◌, ◌++◌, Bool, true, false, ◌&&◌, eqb, nat_lt, ltb-true, lt-ltb, eqb-true, eq-eqb, map, filter, get_or, refl, ap, sym, ◌∙◌, arith}
 use Rattle.std.specs.List.{range_with_len, flat_map, list_any, list_all}
 use Rattle.std.proofs.lemmas.Bool.{false≢true}
 use Rattle.std.proofs.lemmas.List.{append-nil}
@@ -7,10 +7,10 @@ use Rattle.std.proofs.lemmas.Nat.{mod_below, div_below}
 use Rattle.regular_check.proofs.Members.{and-left, and-right, and-both}
 use Rattle.regular_check.proofs.Passing.{same_bool}
 use Rattle.array_readers.specs.Tuples.{same}
-use Rattle.array_readers.proofs.Triples.{same-eq, eq-same}
+use Rattle.array_readers.proofs.Triples.{same-eq}
 use Rattle.permutahedral_arrays.specs.Places as places
 use Rattle.permutahedral_arrays.specs.Permutahedra.{boxed, moved, vectors, still, chains, sequences, is_among, cells_of, present_of}
-use Rattle.permutahedral_arrays.proofs.Loops.{three, as_three, same_three, less_three, less_rows, same_loop, none_loop, boxed_two, boxed_three, all-loop, all-filter, filter-flat_map, map-flat_map}
+use Rattle.permutahedral_arrays.proofs.Loops.{as_three, same_three, less_three, less_rows, same_loop, none_loop, boxed_two, boxed_three, all-loop, all-filter, filter-flat_map, map-flat_map}
 use Rattle.permutahedral_arrays.proofs.Marked.{slab_of, past_planes, past_rows, past_columns, place_once, length-marks, mark_moved, step_place}
 use Rattle.permutahedral_arrays.proofs.Found.{present_three, present_two}
 use Rattle.permutahedral_arrays.proofs.Images.{sequences-are, cells-placed, no-cells, good-cells}

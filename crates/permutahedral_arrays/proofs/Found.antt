@@ -1,5 +1,5 @@
 -- The points of the bits that are 1.
-use Rattle.std.proofs.Common.{◌≡◌, inl, inr, ℕ, zero, suc, ◌+◌, ◌-◌, ◌*◌, ◌<◌, ◌≤◌, List, [], ◌∷◌, ◌++◌, Bool, true, false, cond, ◌&&◌, ◌||◌, eqb, nat_lt, nat_le, ltb-true, leb-true, lt-ltb, le-leb, eqb-true, eq-eqb, ne_eqb, map, drop, get_or, length, refl, ap, sym, ◌∙◌, arith, add-mul, mul_assoc}
+use Rattle.std.proofs.Common.{◌≡◌, inl, inr, ℕ, zero, suc, ◌+◌, ◌-◌, ◌*◌, ◌<◌, ◌≤◌, List, [], ◌∷◌, ◌++◌, Bool, true, false, cond, ◌&&◌, ◌||◌, eqb, nat_lt, nat_le, ltb-true, lt-ltb, le-leb, eqb-true, eq-eqb, ne_eqb, map, drop, get_or, length, refl, ap, sym, ◌∙◌, arith, add-mul, mul_assoc}
 use Rattle.std.specs.List.{range_with_len, flat_map, list_any, items_where_true}
 use Rattle.std.proofs.lemmas.Bool.{cases_lt, false≢true}
 use Rattle.std.proofs.lemmas.List.{length-append, length-map, get_or-drop, drop-drop}

@@ -5,3 +5,4 @@ pub mod Marked
 pub mod Found
 pub mod Images
 pub mod Boxed
+pub mod Equal
