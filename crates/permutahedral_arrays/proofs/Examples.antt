@@ -3,7 +3,6 @@ use Rattle.std.proofs.Common.{◌≡◌, ℕ, List, [], ◌∷◌, Result, Ok, E
 use Rattle.gap_text.specs.Value.{number, list, none, more}
 use Rattle.array_values.specs.declared.fault.ArrayFault.{ArrayFault}
 use Rattle.permutahedral_arrays.specs.Permutahedra.{permutahedral_of}
-use Rattle.permutahedral_arrays.specs.Places.{places_of}
 
 -- how many cells a space has in each dimension
 abbrev counted : Result (List (List (List ℕ))) ArrayFault → List ℕ
@@ -18,11 +17,3 @@ two_points = refl
 -- [[[1]]]
 pub one_point : counted (permutahedral_of (list 0 (more (list 1 (more (list 2 (more (number 3 1) none)) none)) none))) ≡ 24 ∷ 36 ∷ 14 ∷ 1 ∷ []
 one_point = refl
-
--- the same by places
-same_two : places_of (list 0 (more (list 1 (more (number 2 0) (more (number 4 1) none))) (more (list 7 (more (number 8 1) (more (number 10 0) none))) none)))
-    ≡ permutahedral_of (list 0 (more (list 1 (more (number 2 0) (more (number 4 1) none))) (more (list 7 (more (number 8 1) (more (number 10 0) none))) none)))
-same_two = refl
-
-same_one : places_of (list 0 (more (list 1 (more (list 2 (more (number 3 1) none)) none)) none)) ≡ permutahedral_of (list 0 (more (list 1 (more (list 2 (more (number 3 1) none)) none)) none))
-same_one = refl

@@ -1,3 +1,5 @@
+-- How the code finds the space of Permutahedra; that the two are the same for every value is proved (proofs/Equal).
+--
 -- Points by their places. A box with so many planes, rows and columns of bits has the points with coordinates from -1 to the number of
 -- these in each direction. Its points are numbered from 1 in lexicographic order: the number is the place of the point. The steps are the
 -- differences of places from one plane (slab) and one row to the next. An array of two levels is one plane, and its cells stay in it.

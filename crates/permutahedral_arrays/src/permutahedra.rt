@@ -1,6 +1,7 @@
 ghost use Rattle.std.specs.Prelude.{◌≡◌, ◌≢◌, ◌≤◌, ◌<◌, ◌^◌, length, IfOk, IfErr, Ok, Err};
 ghost use Rattle.gap_text.specs.Nest.{view};
-ghost use Rattle.permutahedral_arrays.specs.Places.{places_of, space_with, cells_of, shapes_in};
+ghost use Rattle.permutahedral_arrays.specs.Permutahedra.{permutahedral_of};
+ghost use Rattle.permutahedral_arrays.specs.Places.{space_with, cells_of, shapes_in};
 
 use crate::cells::{MOST_CELLS, list_cells};
 use crate::marks::{Grid, from_end, list_marks, steps};
@@ -23,9 +24,9 @@ use std::alloc::Global;
 /// `TooManyCells`, exactly where there are more than 60,000 cells.
 /// (The dual of the Freudenthal triangulation.)
 pub fn permutahedral(alloc: Global, nest: &Nest) -> Result<Space, ArrayFault>
-    ensures space { IfOk result (λ space. places_of (view nest.now) ≡ Ok space) }
+    ensures space { IfOk result (λ space. permutahedral_of (view nest.now) ≡ Ok space) }
     // Want of memory may be answered to any nest.
-    ensures fault { IfErr result (λ fault. fault ≢ ArrayFault.Memory → places_of (view nest.now) ≡ Err fault) }
+    ensures fault { IfErr result (λ fault. fault ≢ ArrayFault.Memory → permutahedral_of (view nest.now) ≡ Err fault) }
 {
     let array = read_bits(alloc, nest, 2, 3)?;
     let sizes = array.sizes();
