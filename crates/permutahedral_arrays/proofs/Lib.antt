@@ -1,7 +1,10 @@
+pub mod Climbing
 pub mod Examples
 pub mod Growing
+pub mod Listed
 pub mod Loops
 pub mod Marked
+pub mod OneMarked
 pub mod Found
 pub mod Images
 pub mod Boxed

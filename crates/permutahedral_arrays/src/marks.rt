@@ -74,8 +74,10 @@ pub(crate) fn list_marks(
     Ok(marks)
 }
 
-/// How many points a slab and a row of a box have, or want of memory where it has more than 2^29
-/// points.
+/// How many points a slab and a row of a box have.
+///
+/// Want of memory is answered where the box has more than 2^29 points, so that their marks alone would
+/// take more than 512 MiB. Below that every place fits in 32 bits, as the lists of cells keep them.
 pub(crate) fn steps(grid: &Grid) -> Result<(u32, u32), ArrayFault>
     ensures row { IfOk result (λ steps. steps.1 ≡ grid.now.columns + 2) }
     ensures slab { IfOk result (λ steps. steps.0 ≡ (grid.now.rows + 2) * (grid.now.columns + 2)) }

@@ -1,4 +1,5 @@
-ghost use Rattle.std.specs.Prelude.{◌≡◌, ◌≢◌, ◌≤◌, ◌<◌, ◌^◌, length, IfOk, IfErr, Ok, Err};
+ghost use Rattle.std.specs.Prelude.{◌≡◌, ◌≢◌, ◌≤◌, ◌<◌, ◌^◌, length, true, IfOk, IfErr, Ok, Err};
+ghost use Rattle.std.specs.List.{list_any};
 ghost use Rattle.gap_text.specs.Nest.{view};
 ghost use Rattle.permutahedral_arrays.specs.Permutahedra.{permutahedral_of};
 ghost use Rattle.permutahedral_arrays.specs.Places.{space_with, cells_of, shapes_in};
@@ -40,7 +41,8 @@ pub fn permutahedral(alloc: Global, nest: &Nest) -> Result<Space, ArrayFault>
     space_with(alloc, sizes.len() as u8, slab, row, &marks)
 }
 
-/// The space of the cells with a marked point.
+/// The space of the cells with a marked point. A point of a cell is at most a slab, a row and a step
+/// past the last mark.
 fn space_with(
     alloc: Global,
     depth: u8,
@@ -51,6 +53,11 @@ fn space_with(
     requires slab { slab ≤ 2 ^ 29 }
     requires row { row ≤ 2 ^ 29 }
     requires marks { length marks.now ≤ 2 ^ 29 }
+    requires shallow { 2 ≤ depth }
+    requires deep { depth ≤ 3 }
+    requires wide { 1 ≤ row }
+    requires high { 1 ≤ slab }
+    requires one { list_any (λ mark. mark) marks.now ≡ true }
     ensures space { IfOk result (λ space. space_with depth slab row marks.now ≡ Ok space) }
     ensures fault { IfErr result (λ fault. fault ≢ ArrayFault.Memory
         → space_with depth slab row marks.now ≡ Err fault) }
@@ -62,7 +69,8 @@ fn space_with(
     if vertices.len() + edges.len() + faces.len() + solids.len() > MOST_CELLS {
         return Err(ArrayFault::TooManyCells);
     }
-    Ok(build(alloc, marks.len(), &vertices, &edges, &faces, &solids)?)
+    let most = marks.len() + slab as usize + row as usize + 1;
+    Ok(build(alloc, most, &vertices, &edges, &faces, &solids)?)
 }
 
 /// The cells of a dimension with a marked point, or `TooManyCells` only where there are more than
