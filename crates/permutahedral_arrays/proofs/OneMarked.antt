@@ -3,17 +3,14 @@ use Rattle.std.proofs.Common.{◌≡◌, ℕ, zero, suc, ◌+◌, ◌-◌, ◌*�
 use Rattle.std.specs.List.{list_any}
 use Rattle.std.proofs.Math.Nat.{mul_assoc, add-mul, mul-le-mul_right, mul-zero, zero-mul}
 use Rattle.std.proofs.lemmas.Bool.{lt-ltb, le-leb}
-use Rattle.std.proofs.lemmas.Nat.{div-mul-add, mod-mul-add, div-add-mod', mod_below, div_below}
+use Rattle.std.proofs.lemmas.Nat.{div-add-mod', mod_below, div_below}
 use Rattle.std.proofs.lemmas.List.{get_or_default}
-use Rattle.std.proofs.lemmas.List.FromFn.{length-map-range_with_len, get_or-map-range_with_len}
+use Rattle.std.proofs.lemmas.List.FromFn.{get_or-map-range_with_len}
 use Rattle.std.proofs.lemmas.List.Folds.{list_any_at, Any-from_list_any}
 use Rattle.regular_check.proofs.Members.{and-both}
 use Rattle.array_values.specs.Bits.{volume}
 use Rattle.permutahedral_arrays.specs.Places.{is_inside, mark_at, mark_of, marks_of, from_end}
-
--- a row and a place in it are below so many rows
-row-below : (c l v r : ℕ) → c < l → r < v → c * v + r < l * v
-row-below c l v r a b = let m : suc c * v ≤ l * v = mul-le-mul_right v a in omega (arith, m)
+use Rattle.permutahedral_arrays.proofs.Marked.{row_below, mark_is, length-marks}
 
 inside : (size c : ℕ) → c < size → is_inside size (c + 1) ≡ true
 inside size c l = and-both _ _ (lt-ltb 0 (c + 1) (omega arith)) (le-leb (c + 1) size (omega (arith, l)))
@@ -28,22 +25,6 @@ mark-bit planes rows columns bits x y z lx ly lz =
     (and-both (is_inside planes (x + 1)) (is_inside rows (y + 1) && is_inside columns (z + 1)) (inside planes x lx) (and-both (is_inside rows (y + 1)) (is_inside columns (z + 1)) (inside rows y ly) (inside columns z lz)))
     ∙ (ap (λ (n : ℕ). get_or bits ((n * rows + (y + 1 - 1)) * columns + (z + 1 - 1)) false) e
     ∙ (ap (λ (n : ℕ). get_or bits ((x * rows + n) * columns + (z + 1 - 1)) false) f ∙ ap (λ (n : ℕ). get_or bits ((x * rows + y) * columns + n) false) g))
-
-regroup : (x n y r z : ℕ) → x * (n * r) + (y * r + z) ≡ (x * n + y) * r + z
-regroup x n y r z = omega (arith, mul_assoc x n r, add-mul (x * n) y r)
-
--- the mark at the place of a point
-mark-place : (planes rows columns : ℕ) (bits : List Bool) (x y z : ℕ) → y < rows + 2 → z < columns + 2 → mark_of planes rows columns bits (x * ((rows + 2) * (columns + 2)) + (y * (columns + 2) + z)) ≡ mark_at planes rows columns bits x y z
-mark-place planes rows columns bits x y z ly lz =
-    let row : ℕ = columns + 2 in
-    let slab : ℕ = (rows + 2) * (columns + 2) in
-    let rest : ℕ = y * row + z in
-    let place : ℕ = x * slab + rest in
-    let l : rest < slab = row-below y (rows + 2) row z ly lz in
-    let b : place % slab / row ≡ y = ap (λ (n : ℕ). n / row) (mod-mul-add x slab rest l) ∙ div-mul-add y row z lz in
-    let d : place % row ≡ z = ap (λ (n : ℕ). n % row) (regroup x (rows + 2) y row z) ∙ mod-mul-add (x * (rows + 2) + y) row z lz in
-    ap (λ (n : ℕ). mark_at planes rows columns bits n (place % slab / row) (place % row)) (div-mul-add x slab rest l)
-    ∙ (ap (λ (n : ℕ). mark_at planes rows columns bits x n (place % row)) b ∙ ap (λ (n : ℕ). mark_at planes rows columns bits x y n) d)
 
 -- the bit at an index, by its plane, row and column
 parts : (rows columns i : ℕ) → i / (rows * columns) * rows * columns + i % (rows * columns) ≡ i
@@ -72,12 +53,12 @@ marked planes rows columns bits full one =
     let lz : z < columns = mod_below (i % (rows * columns)) columns some.1 in
     let place : ℕ = (x + 1) * ((rows + 2) * (columns + 2)) + ((y + 1) * (columns + 2) + (z + 1)) in
     let m : mark_of planes rows columns bits place ≡ true =
-    mark-place planes rows columns bits (x + 1) (y + 1) (z + 1) (omega (arith, ly)) (omega (arith, lz))
+    mark_is planes rows columns bits (x + 1) (y + 1) (z + 1) (omega (arith, ly)) (omega (arith, lz))
     ∙ (mark-bit planes rows columns bits x y z lx ly lz ∙ (ap (λ (n : ℕ). get_or bits n false) (whole rows columns i) ∙ (get_or_default bits i false at.1 at.2 ∙ (at.3 ∙ at.4)))) in
-    let inner : (y + 1) * (columns + 2) + (z + 1) < (rows + 2) * (columns + 2) = row-below (y + 1) (rows + 2) (columns + 2) (z + 1) (omega (arith, ly)) (omega (arith, lz)) in
-    let low : place < (planes + 2) * ((rows + 2) * (columns + 2)) = row-below (x + 1) (planes + 2) ((rows + 2) * (columns + 2)) ((y + 1) * (columns + 2) + (z + 1)) (omega (arith, lx)) inner in
+    let inner : (y + 1) * (columns + 2) + (z + 1) < (rows + 2) * (columns + 2) = row_below (y + 1) (z + 1) (rows + 2) (columns + 2) (omega (arith, ly)) (omega (arith, lz)) in
+    let low : place < (planes + 2) * ((rows + 2) * (columns + 2)) = row_below (x + 1) ((y + 1) * (columns + 2) + (z + 1)) (planes + 2) ((rows + 2) * (columns + 2)) (omega (arith, lx)) inner in
     let n : ℕ = (planes + 2) * ((rows + 2) * (columns + 2)) in
-    list_any_at (λ (mark : Bool). mark) (marks_of planes rows columns bits) place false (omega (arith, low, length-map-range_with_len (mark_of planes rows columns bits) 0 n))
+    list_any_at (λ (mark : Bool). mark) (marks_of planes rows columns bits) place false (omega (arith, low, length-marks planes rows columns bits))
     (get_or-map-range_with_len (mark_of planes rows columns bits) 0 n place place false low (omega arith) ∙ m)
 
 pub volume-is : (sizes : List ℕ) → 2 ≤ length sizes → length sizes ≤ 3 → volume sizes ≡ from_end sizes 2 * (from_end sizes 1 * from_end sizes 0)
