@@ -6,7 +6,10 @@
 mod cleared;
 mod coboundary;
 mod columns;
+mod found;
+mod indexes;
 mod listing;
+mod reach;
 mod reduced;
 mod stage;
 mod substitution;

@@ -1,9 +1,10 @@
 // The reduction of a signed set to the critical cells of a field of pairs.
-ghost use Rattle.std.specs.Prelude.{◌≡◌, ◌+◌, ◌<◌, ◌≤◌, length, slice_index_or, IfOk};
+ghost use Rattle.std.specs.Prelude.{◌≡◌, ◌+◌, ◌<◌, ◌≤◌, ℕ, suc, length, slice_index_or, IfOk};
 ghost use Rattle.vector_field.specs.Pairs.{IsFieldOf};
 ghost use Rattle.critical_laws.specs.Kinds.{criticals};
 ghost use Rattle.critical_laws.specs.Solutions.{IsCleared, IsExtension, IsReducedBy};
 ghost use Rattle.critical_complex.specs.Stages.{critical_from, IsPaired};
+ghost use Rattle.critical_complex.specs.Reaches.{AreDegrees};
 ghost use Rattle.critical_complex.specs.Units.{IsUnitOf, no_match};
 ghost use Rattle.critical_complex.specs.Splits.{stage_at, stage_before, cells_at, kinds_at, rows_at, AreMatrices, IsReductionOf, IsSplitting};
 
@@ -56,13 +57,20 @@ fn list_stages<F: Field, G: Signed>(
 }
 
 /// The coboundaries of the extensions, for each degree.
-fn list_matrices<F: Field>(alloc: Global, stages: &[Stage<F>]) -> Result<Vec<Matrix<F>>, AllocError>
-    requires { IsSplitting F.ops stages.now }
+fn list_matrices<F: Field, G: Signed>(
+    alloc: Global,
+    graded: &G,
+    stages: &[Stage<F>],
+) -> Result<Vec<Matrix<F>>, AllocError>
+    requires splitting { IsSplitting F.ops stages.now }
+    requires degrees { (degree : ℕ) → degree < 4 → AreDegrees F.ops (G.space graded.now) (G.negative graded.now) degree (stage_at stages.now degree) (stage_at stages.now (suc degree)) }
     ensures { IfOk result (λ matrices. AreMatrices F.ops stages.now 4 matrices.items) }
 {
     let mut matrices = Vec::new(alloc);
-    for index in 0..4 {
-        let matrix = coboundary_matrix(alloc, &stages[index], &stages[index + 1])?;
+    for dim in 0..4 {
+        let stage = &stages[dim as usize];
+        let next = &stages[dim as usize + 1];
+        let matrix = coboundary_matrix(alloc, graded, dim, stage, next)?;
         matrices.push(matrix)?;
     }
     Ok(matrices)
@@ -80,7 +88,7 @@ impl<F: Field> Reduced<F> {
         ensures splitting { IfOk result (IsSplitting F.ops) }
     {
         let stages = list_stages(alloc, graded, field)?;
-        let matrices = list_matrices(alloc, &stages)?;
+        let matrices = list_matrices(alloc, graded, &stages)?;
         Ok(Reduced { stages, matrices })
     }
 

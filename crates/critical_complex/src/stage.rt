@@ -6,7 +6,9 @@ ghost use Rattle.critical_laws.specs.Solutions.{IsCleared, IsExtension, without}
 ghost use Rattle.critical_complex.specs.Units.{IsUnitOf, no_match};
 ghost use Rattle.critical_complex.specs.Stages.{critical_from, place_of, IsSmall, IsPaired};
 ghost use Rattle.vector_field.specs.Pairs.{IsFieldOf};
-ghost use Rattle.critical_laws.specs.Pairs.{settle as settled};
+ghost use Rattle.std.specs.List.{AllByRecursion};
+ghost use Rattle.critical_laws.specs.Pairs.{kind_at, settle as settled, Triangular};
+ghost use Rattle.critical_complex.specs.Reaches.{match_at};
 ghost use Rattle.critical_complex.specs.Signed.{IsStageOf};
 
 use crate::cleared::Cleared;
@@ -116,6 +118,40 @@ impl<F: Field> Stage<F> {
         ensures { x.new ≡ settled F.ops self.now.rows t.now self.now.pairs x.old }
     {
         settle(&self.columns, &self.pairs, t, x);
+    }
+
+    /// The same for some of the pairs, in the order of the field.
+    pub(crate) fn settle_chosen(
+        &self,
+        next: &Stage<F>,
+        pairs: &[Match],
+        t: &Cochain<F>,
+        x: &mut Cochain<F>,
+    )
+        requires paired { IsPaired F.ops self.now next.now }
+        requires triangular { Triangular self.now.rows pairs.now }
+        requires uppers { AllByRecursion (λ p. p.upper < length next.now.kinds) pairs.now }
+        requires above { length t.now ≡ length next.now.kinds }
+        requires below { length x.old ≡ length self.now.kinds }
+        ensures { x.new ≡ settled F.ops self.now.rows t.now pairs.now x.old }
+    {
+        settle(&self.columns, pairs, t, x);
+    }
+
+    /// What the cell at a place is.
+    pub(crate) fn kind(&self, place: u32) -> Kind
+        requires { place < length self.now.kinds }
+        ensures { result ≡ kind_at self.now.kinds place }
+    {
+        self.kinds[place as usize]
+    }
+
+    /// A pair, by its index.
+    pub(crate) fn pair(&self, index: u32) -> Match
+        requires { index < length self.now.pairs }
+        ensures { result ≡ match_at self.now.pairs index }
+    {
+        self.pairs[index as usize]
     }
 
     /// The critical cells, increasing.
