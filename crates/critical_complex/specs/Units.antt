@@ -1,5 +1,5 @@
 -- The units of a reduction.
-use Rattle.std.specs.Prelude.{◌≡◌, ◌+◌, [], ◌∷◌}
+use Rattle.std.specs.Prelude.{◌≡◌, ℕ, ◌+◌, List, [], ◌∷◌}
 use Rattle.critical_laws.specs.declared.matching.Match.{Match}
 use Rattle.critical_complex.specs.declared.unit.Unit.{Unit}
 

@@ -1,4 +1,4 @@
-use Rattle.std.proofs.Common.{◌<◌, ◌≤◌, List, length, get_or, ap, ◌∙◌, arith}
+use Rattle.std.proofs.Common.{◌≡◌, ◌+◌, ◌<◌, ◌≤◌, ℕ, List, length, get_or, ap, ◌∙◌, arith}
 use Rattle.critical_laws.specs.declared.matching.Match.{Match}
 use Rattle.critical_complex.specs.Stages.{Stage}
 use Rattle.critical_complex.proofs.Filling.{pair_small}
