@@ -6,3 +6,4 @@ pub mod SignedLemmas
 pub mod KindLemmas
 pub mod Matching
 pub mod Filling
+pub mod Flows

@@ -2,13 +2,14 @@
 ghost use Rattle.std.specs.Prelude.{◌≡◌, ◌+◌, ◌<◌, ◌≤◌, length, slice_index_or, IfOk};
 ghost use Rattle.vector_field.specs.Pairs.{IsFieldOf};
 ghost use Rattle.critical_laws.specs.Kinds.{criticals};
-ghost use Rattle.critical_laws.specs.Solutions.{IsCleared, IsExtension, IsReducedBy};
+ghost use Rattle.critical_laws.specs.Solutions.{IsCleared, IsExtension, IsFlow, IsReducedBy};
 ghost use Rattle.critical_complex.specs.Stages.{critical_from, IsPaired};
 ghost use Rattle.critical_complex.specs.Units.{IsUnitOf, no_match};
 ghost use Rattle.critical_complex.specs.Splits.{stage_at, stage_before, cells_at, kinds_at, rows_at, AreMatrices, IsReductionOf, IsSplitting};
 
 use crate::cleared::Cleared;
 use crate::coboundary::coboundary_matrix;
+use crate::flow::{flow, flow_first};
 use crate::stage::Stage;
 use crate::unit::Unit;
 use face_poset::Signed;
@@ -114,6 +115,20 @@ impl<F: Field> Reduced<F> {
         let stages: &[Stage<F>] = &self.stages;
         let stage = &stages[dim as usize];
         stage.extension(alloc, &stages[dim as usize + 1], w)
+    }
+
+    /// The one chain that has these values at the critical cells and is 0 on lowers, and whose boundary is 0 on
+    /// lowers of one degree less.
+    pub fn flow(&self, alloc: Global, dim: u8, c: &Row<F>) -> Result<Cochain<F>, AllocError>
+        requires degree { dim ≤ 3 }
+        requires values { length c.now ≡ criticals (kinds_at self.now dim) }
+        ensures { IfOk result (IsFlow F.ops (length (stage_before self.now dim).kinds) (cells_at self.now dim) (stage_before self.now dim).rows (stage_before self.now dim).kinds (kinds_at self.now dim) c.now) }
+    {
+        let stages: &[Stage<F>] = &self.stages;
+        if dim == 0 {
+            return flow_first(alloc, &stages[0], c);
+        }
+        flow(alloc, &stages[dim as usize - 1], &stages[dim as usize], c)
     }
 
     /// Clears a cochain: the one cochain of one degree less, on its lowers, whose coboundary is the cochain on
