@@ -7,3 +7,4 @@ pub mod KindLemmas
 pub mod Matching
 pub mod Filling
 pub mod Flows
+pub mod UnitLemmas

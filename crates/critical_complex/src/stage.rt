@@ -1,9 +1,9 @@
 // What is kept of one degree.
-ghost use Rattle.std.specs.Prelude.{◌≡◌, ◌<◌, ◌≤◌, [], length, replicate, slice_index_or, IfOk};
+ghost use Rattle.std.specs.Prelude.{◌≡◌, ◌<◌, ◌≤◌, [], length, replicate, IfOk};
 ghost use Rattle.linear_algebra.specs.Vectors.{boundary as boundary_of, column, dot, plus_scaled};
 ghost use Rattle.critical_laws.specs.Kinds.{criticals, part, spread, HasNoUpper};
 ghost use Rattle.critical_laws.specs.Solutions.{IsCleared, IsExtension, without};
-ghost use Rattle.critical_complex.specs.Units.{IsUnitOf, no_match};
+ghost use Rattle.critical_complex.specs.Units.{IsTriangular, IsUnitOf, pair_at};
 ghost use Rattle.critical_complex.specs.Stages.{critical_from, place_of, IsSmall, IsPaired};
 ghost use Rattle.vector_field.specs.Pairs.{IsFieldOf};
 ghost use Rattle.critical_laws.specs.Pairs.{carry as carried, settle as settled};
@@ -239,7 +239,8 @@ impl<F: Field> Stage<F> {
     ) -> Result<Unit, AllocError>
         requires paired { IsPaired F.ops self.now next.now }
         requires index { index < length self.now.pairs }
-        ensures { IfOk result (IsUnitOf (slice_index_or self.now.pairs index no_match)) }
+        ensures unit { IfOk result (IsUnitOf (pair_at self.now.pairs index)) }
+        ensures triangular { IfOk result (IsTriangular F.ops self.now next.now index) }
     {
         let _few = self.len();
         let _above = next.len();
