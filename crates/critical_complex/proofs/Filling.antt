@@ -33,6 +33,11 @@ module _ (F : Ops) (L : IsField F) where
   zeros-vector : (n : ℕ) → IsVector F n (replicate n 0)
   zeros-vector n = record { long = length-replicate n 0; elements = zeros-elements F L n }
 
+  pub set_below : (xs : List ℕ) (i v : ℕ) → v < F.size → AreElements F xs → AreElements F (set xs i v)
+  set_below [] i v l h = h
+  set_below (x ∷ xs) zero v l h = (l, h.1)
+  set_below (x ∷ xs) (suc i) v l h = (h.0, set_below xs i v l h.1)
+
   -- the coboundary at a critical cell
   pub value_is : (m : ℕ) (rows : List (List ℕ)) (us : List Kind) (x : List ℕ) (col : ℕ) → IsMatrix F m rows → length us ≡ m → col < criticals us → dot F x (column (place_of us col) rows) ≡ get_or (part us (combination F m x rows)) col 0
   value_is m rows us x col a l lt =
@@ -144,7 +149,7 @@ none_upper (Critical ∷ ts) (x ∷ xs) h l = none_upper ts xs h (omega arith)
 none_upper (Lower ∷ ts) (x ∷ xs) h l = none_upper ts xs h (omega arith)
 none_upper (Upper ∷ ts) (x ∷ xs) h l = absurd h
 
-plus_zeros_at : (F : Ops) (L : IsField F) (s m : ℕ) (x : List ℕ) → length x ≡ m → AreElements F x → plus_scaled F s x (replicate m 0) ≡ x
+pub plus_zeros_at : (F : Ops) (L : IsField F) (s m : ℕ) (x : List ℕ) → length x ≡ m → AreElements F x → plus_scaled F s x (replicate m 0) ≡ x
 plus_zeros_at F L s zero [] l el = refl
 plus_zeros_at F L s zero (x ∷ xs) l el = absurd (omega arith)
 plus_zeros_at F L s (suc m) [] l el = absurd (omega arith)

@@ -8,7 +8,8 @@ use Rattle.critical_laws.specs.declared.matching.Match.{Match}
 use Rattle.critical_laws.specs.Kinds.{criticals}
 use Rattle.critical_laws.specs.Pairs.{HasUpper, kind_at}
 use Rattle.critical_complex.specs.Stages.{Stage, IsPaired, place_of}
-use Rattle.critical_complex.specs.Reaches.{match_at, HasPair, AreIndexes}
+use Rattle.critical_complex.specs.Reaches.{HasPair, AreIndexes}
+use Rattle.critical_complex.specs.Units.{pair_at}
 use Rattle.critical_complex.proofs.Placed.{place_below}
 
 pub critical_no_upper : Critical ≡ Upper → ⊥
@@ -49,21 +50,21 @@ place_one (Upper ∷ ts) c d lc ld e = place_one ts c d lc ld (omega arith)
 
 -- ---- one index more
 
-has_pair : (ps : List Match) (xs : List ℕ) (j k : ℕ) → get_or xs j 0 ≡ k → k < length ps → (match_at ps k).upper ≡ j → HasPair ps xs j
-has_pair ps xs j k e lt u = record { within = subst (λ (n : ℕ). n < length ps) (sym e) lt; upper = ap (λ (n : ℕ). (match_at ps n).upper) e ∙ u }
+has_pair : (ps : List Match) (xs : List ℕ) (j k : ℕ) → get_or xs j 0 ≡ k → k < length ps → (pair_at ps k).upper ≡ j → HasPair ps xs j
+has_pair ps xs j k e lt u = record { within = subst (λ (n : ℕ). n < length ps) (sym e) lt; upper = ap (λ (n : ℕ). (pair_at ps n).upper) e ∙ u }
 
-pub pairs_more : (ps : List Match) (xs now : List ℕ) (i : ℕ) (p : Match) → i < length ps → p ≡ match_at ps i → p.upper < length xs → now ≡ set xs p.upper i
-    → ((k : ℕ) → k < i → HasPair ps xs ((match_at ps k).upper)) → (k : ℕ) → k < i + 1 → HasPair ps now ((match_at ps k).upper)
+pub pairs_more : (ps : List Match) (xs now : List ℕ) (i : ℕ) (p : Match) → i < length ps → p ≡ pair_at ps i → p.upper < length xs → now ≡ set xs p.upper i
+    → ((k : ℕ) → k < i → HasPair ps xs ((pair_at ps k).upper)) → (k : ℕ) → k < i + 1 → HasPair ps now ((pair_at ps k).upper)
 pairs_more ps xs now i p lt e lu s h k lk =
     let u : ℕ = p.upper in
-    let eu : u ≡ (match_at ps i).upper = ap (λ (q : Match). q.upper) e in
-    subst (λ (ys : List ℕ). HasPair ps ys ((match_at ps k).upper)) (sym s)
-    (elim (cases_eq ((match_at ps k).upper) u) [
-      | inl b ↦ has_pair ps (set xs u i) ((match_at ps k).upper) i (ap (λ (j : ℕ). get_or (set xs u i) j 0) b ∙ get_or-set_same xs u i 0 lu) lt (sym eu ∙ sym b)
+    let eu : u ≡ (pair_at ps i).upper = ap (λ (q : Match). q.upper) e in
+    subst (λ (ys : List ℕ). HasPair ps ys ((pair_at ps k).upper)) (sym s)
+    (elim (cases_eq ((pair_at ps k).upper) u) [
+      | inl b ↦ has_pair ps (set xs u i) ((pair_at ps k).upper) i (ap (λ (j : ℕ). get_or (set xs u i) j 0) b ∙ get_or-set_same xs u i 0 lu) lt (sym eu ∙ sym b)
       | inr b ↦
-          let other : k ≢ i = λ z. b (ap (λ (n : ℕ). (match_at ps n).upper) z ∙ sym eu) in
+          let other : k ≢ i = λ z. b (ap (λ (n : ℕ). (pair_at ps n).upper) z ∙ sym eu) in
           let was = h k (omega arith) in
-          has_pair ps (set xs u i) ((match_at ps k).upper) (get_or xs ((match_at ps k).upper) 0) (get_or-set_other xs u ((match_at ps k).upper) i 0 b) was.within was.upper
+          has_pair ps (set xs u i) ((pair_at ps k).upper) (get_or xs ((pair_at ps k).upper) 0) (get_or-set_other xs u ((pair_at ps k).upper) i 0 b) was.within was.upper
     ])
 
 pub columns_more : (us : List Kind) (xs now : List ℕ) (i p : ℕ) → i < criticals us → length xs ≡ length us → p ≡ place_of us i → now ≡ set xs p i
@@ -84,12 +85,12 @@ others_more us old xs now i p lt e s h j k =
 
 -- ---- all indexes
 
-pub has_upper_at : (ps : List Match) (j : ℕ) → HasUpper ps j → (k : ℕ) × (k < length ps) × ((match_at ps k).upper ≡ j)
+pub has_upper_at : (ps : List Match) (j : ℕ) → HasUpper ps j → (k : ℕ) × (k < length ps) × ((pair_at ps k).upper ≡ j)
 has_upper_at [] j h = absurd h
 has_upper_at (p ∷ ps) j (inl e) = (zero, omega arith, e)
 has_upper_at (p ∷ ps) j (inr h) = let r = has_upper_at ps j h in (suc r.0, omega (arith, r.1), r.2)
 
-pub indexes_are : (F : Ops) (s next : Stage) (xs ys : List ℕ) → IsPaired F s next → length ys ≡ length next.kinds → ((k : ℕ) → k < length s.pairs → HasPair s.pairs xs ((match_at s.pairs k).upper))
+pub indexes_are : (F : Ops) (s next : Stage) (xs ys : List ℕ) → IsPaired F s next → length ys ≡ length next.kinds → ((k : ℕ) → k < length s.pairs → HasPair s.pairs xs ((pair_at s.pairs k).upper))
     → ((c : ℕ) → c < criticals next.kinds → get_or ys (place_of next.kinds c) 0 ≡ c) → ((j : ℕ) → kind_at next.kinds j ≡ Upper → get_or ys j 0 ≡ get_or xs j 0) → AreIndexes s.pairs next.kinds ys
 indexes_are F s next xs ys P l pairs columns others = record {
   long = l;

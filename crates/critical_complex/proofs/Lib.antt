@@ -10,3 +10,5 @@ pub mod Indexed
 pub mod Searched
 pub mod Sparse
 pub mod Rows
+pub mod Flows
+pub mod UnitLemmas

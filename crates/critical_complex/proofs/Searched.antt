@@ -19,9 +19,9 @@ use Rattle.critical_laws.specs.declared.matching.Match.{Match}
 use Rattle.critical_laws.specs.Pairs.{HasUpper, kind_at}
 use Rattle.critical_complex.specs.Stages.{Stage, IsPaired}
 use Rattle.critical_complex.specs.Signed.{sign_element, signed_entry, signed_rows}
-use Rattle.critical_complex.specs.Reaches.{match_at, upper_index, AreDegrees, AreIndexes, HasCofaces, HasMore, HoldsAll, IsClosed, IsOrder, IsReach, Misses}
+use Rattle.critical_complex.specs.Reaches.{upper_index, AreDegrees, AreIndexes, HasCofaces, HasMore, HoldsAll, IsClosed, IsOrder, IsReach, Misses}
 use Rattle.critical_complex.proofs.Pairwise.{triangular_at}
-use Rattle.critical_complex.specs.Units.{no_match}
+use Rattle.critical_complex.specs.Units.{no_match, pair_at}
 
 -- ---- what is found more
 
@@ -49,13 +49,13 @@ module _ (space : List (List (List ℕ))) (dim : ℕ) (s next : Stage) (xs : Lis
   -- the cofaces of the cell were found, and what the first `head` cells lead to
   pub record IsSearch (head : ℕ) (found : List ℕ) : Type 0 where
     pub begun : HasCofaces space dim place found
-    pub onward : (k : ℕ) → k < head → k < length found → kind_at next.kinds (get_or found k 0 - 1) ≡ Upper → HasCofaces space dim ((match_at s.pairs (get_or xs (get_or found k 0 - 1) 0)).lower) found
+    pub onward : (k : ℕ) → k < head → k < length found → kind_at next.kinds (get_or found k 0 - 1) ≡ Upper → HasCofaces space dim ((pair_at s.pairs (get_or xs (get_or found k 0 - 1) 0)).lower) found
 
   pub search_begun : (found : List ℕ) → HasCofaces space dim place found → IsSearch 0 found
   search_begun found h = record { begun = h; onward = λ k lt. absurd (omega arith) }
 
   pub search_more : (head : ℕ) (found new : List ℕ) (p : ℕ) → head < length found → p ≡ get_or found head 0 - 1 → IsSearch head found → HasMore found new
-      → (kind_at next.kinds p ≡ Upper → HasCofaces space dim ((match_at s.pairs (get_or xs p 0)).lower) new) → IsSearch (head + 1) new
+      → (kind_at next.kinds p ≡ Upper → HasCofaces space dim ((pair_at s.pairs (get_or xs p 0)).lower) new) → IsSearch (head + 1) new
   search_more head found new p l e h m step =
       record {
         begun = λ n c. m.kept n (h.begun n c);
@@ -64,12 +64,12 @@ module _ (space : List (List (List ℕ))) (dim : ℕ) (s next : Stage) (xs : Lis
             elim (cases_eq k head) [
               | inl b ↦
                   let q : get_or new k 0 - 1 ≡ p = same (subst (λ (x : ℕ). x < length found) (sym b) l) ∙ (ap (λ (x : ℕ). get_or found x 0 - 1) b ∙ sym e) in
-                  subst (λ (x : ℕ). HasCofaces space dim ((match_at s.pairs (get_or xs x 0)).lower) new) (sym q) (step (ap (kind_at next.kinds) (sym q) ∙ u))
+                  subst (λ (x : ℕ). HasCofaces space dim ((pair_at s.pairs (get_or xs x 0)).lower) new) (sym q) (step (ap (kind_at next.kinds) (sym q) ∙ u))
               | inr b ↦
                   let lf : k < length found = omega arith in
                   let q : get_or new k 0 - 1 ≡ get_or found k 0 - 1 = same lf in
-                  let old : HasCofaces space dim ((match_at s.pairs (get_or xs (get_or found k 0 - 1) 0)).lower) found = h.onward k (omega arith) lf (ap (kind_at next.kinds) (sym q) ∙ u) in
-                  subst (λ (x : ℕ). HasCofaces space dim ((match_at s.pairs (get_or xs x 0)).lower) new) (sym q) (λ n c. m.kept n (old n c))
+                  let old : HasCofaces space dim ((pair_at s.pairs (get_or xs (get_or found k 0 - 1) 0)).lower) found = h.onward k (omega arith) lf (ap (kind_at next.kinds) (sym q) ∙ u) in
+                  subst (λ (x : ℕ). HasCofaces space dim ((pair_at s.pairs (get_or xs x 0)).lower) new) (sym q) (λ n c. m.kept n (old n c))
             ];
       }
 
@@ -80,7 +80,7 @@ module _ (space : List (List (List ℕ))) (dim : ℕ) (s next : Stage) (xs : Lis
         let c = In-Contains (holds-In found m) in
         let at : get_or found c.0 0 ≡ j + 1 = get_or_default found c.0 0 (j + 1) c.1 ∙ c.2 in
         let q : get_or found c.0 0 - 1 ≡ j = omega arith in
-        subst (λ (x : ℕ). HasCofaces space dim ((match_at s.pairs (get_or xs x 0)).lower) found) q (h.onward c.0 (omega (arith, c.1)) c.1 (ap (kind_at next.kinds) q ∙ u));
+        subst (λ (x : ℕ). HasCofaces space dim ((pair_at s.pairs (get_or xs x 0)).lower) found) q (h.onward c.0 (omega (arith, c.1)) c.1 (ap (kind_at next.kinds) q ∙ u));
   }
 
 -- ---- the pairs of the uppers that were found
@@ -160,11 +160,11 @@ coface_of F space negative dim i j li lj ne =
     by true e at = In-holds (In-cofaces space dim (i + 1) (j + 1) (omega arith) (omega arith) (holds-In (facets_of space (dim + 1) (j + 1)) e))
     by false e at = absurd (ne (at ∙ ap (λ (b : Bool). cond b (sign_element F (negative (dim + 1) (j + 1) (i + 1))) 0) e))
 
-has_upper_in : (ps : List Match) (order : List ℕ) (k j : ℕ) → In k order → (match_at ps k).upper ≡ j → HasUpper (map (match_at ps) order) j
+has_upper_in : (ps : List Match) (order : List ℕ) (k j : ℕ) → In k order → (pair_at ps k).upper ≡ j → HasUpper (map (pair_at ps) order) j
 has_upper_in ps [] k j m e = elim m [ ]
-has_upper_in ps (o ∷ order) k j m e = elim (In-cases m) [ inl q ↦ inl (ap (λ (n : ℕ). (match_at ps n).upper) (sym q) ∙ e) | inr q ↦ inr (has_upper_in ps order k j q e) ]
+has_upper_in ps (o ∷ order) k j m e = elim (In-cases m) [ inl q ↦ inl (ap (λ (n : ℕ). (pair_at ps n).upper) (sym q) ∙ e) | inr q ↦ inr (has_upper_in ps order k j q e) ]
 
-pub map_all : (P : Match → Type 0) (ps : List Match) (order : List ℕ) → ((k : ℕ) → In k order → P (match_at ps k)) → AllByRecursion P (map (match_at ps) order)
+pub map_all : (P : Match → Type 0) (ps : List Match) (order : List ℕ) → ((k : ℕ) → In k order → P (pair_at ps k)) → AllByRecursion P (map (pair_at ps) order)
 map_all P ps [] h = tt
 map_all P ps (k ∷ order) h = (h k here, map_all P ps order (λ i m. h i (there m)))
 
@@ -179,26 +179,26 @@ module _ (F : Ops) (space : List (List (List ℕ))) (negative : ℕ → ℕ → 
             absurd (false≢true (sym none ∙ h (j + 1) (coface_of F space negative dim i j (subst (λ (n : ℕ). i < n) D.cells li) (subst (λ (n : ℕ). j < n) D.above lj) (λ w. z (e ∙ w)))))
       ]
 
-  lower_in : (k : ℕ) → k < length s.pairs → (match_at s.pairs k).lower < length s.kinds
-  lower_in k lt = subst (λ (n : ℕ). (match_at s.pairs k).lower < n) P.matching.long ((triangular_at s.rows s.pairs k no_match P.matching.triangular lt).0)
+  lower_in : (k : ℕ) → k < length s.pairs → (pair_at s.pairs k).lower < length s.kinds
+  lower_in k lt = subst (λ (n : ℕ). (pair_at s.pairs k).lower < n) P.matching.long ((triangular_at s.rows s.pairs k no_match P.matching.triangular lt).0)
 
   pub order_within : (found order : List ℕ) → IsOrder next.kinds xs found order → All (λ k. k < length s.pairs) order
   order_within found order o k d lt =
       let r = o.only (get_or order k d) (In-Contains (at-In order k d lt)) in
       subst (λ (n : ℕ). n < length s.pairs) r.4 ((A.upper r.0 r.1 r.3).within)
 
-  misses : (place : ℕ) (found order : List ℕ) → place < length s.kinds → IsClosed space dim s next xs place found → IsOrder next.kinds xs found order → (j : ℕ) → j < length next.kinds → holds found (j + 1) ≡ false → Misses s.rows place (map (match_at s.pairs) order) j
+  misses : (place : ℕ) (found order : List ℕ) → place < length s.kinds → IsClosed space dim s next xs place found → IsOrder next.kinds xs found order → (j : ℕ) → j < length next.kinds → holds found (j + 1) ≡ false → Misses s.rows place (map (pair_at s.pairs) order) j
   misses place found order lp c o j lj none = (
     unmet found place j lp lj c.begun none,
     map_all (λ q. entry s.rows q.lower j ≡ 0) s.pairs order
         (λ k m.
         let r = o.only k (In-Contains m) in
         let lk : k < length s.pairs = subst (λ (n : ℕ). n < length s.pairs) r.4 ((A.upper r.0 r.1 r.3).within) in
-        let h : HasCofaces space dim ((match_at s.pairs k).lower) found = subst (λ (n : ℕ). HasCofaces space dim ((match_at s.pairs n).lower) found) r.4 (c.onward r.0 r.1 r.2 r.3) in
-        unmet found ((match_at s.pairs k).lower) j (lower_in k lk) lj h none),
+        let h : HasCofaces space dim ((pair_at s.pairs k).lower) found = subst (λ (n : ℕ). HasCofaces space dim ((pair_at s.pairs n).lower) found) r.4 (c.onward r.0 r.1 r.2 r.3) in
+        unmet found ((pair_at s.pairs k).lower) j (lower_in k lk) lj h none),
   )
 
-  pub reach_is : (place : ℕ) (found order : List ℕ) (qs : List Match) → place < length s.kinds → IsClosed space dim s next xs place found → IsOrder next.kinds xs found order → qs ≡ map (match_at s.pairs) order → IsReach s next place found qs
+  pub reach_is : (place : ℕ) (found order : List ℕ) (qs : List Match) → place < length s.kinds → IsClosed space dim s next xs place found → IsOrder next.kinds xs found order → qs ≡ map (pair_at s.pairs) order → IsReach s next place found qs
   reach_is place found order qs lp c o e = record {
     order = order;
     rises = o.rises;

@@ -22,7 +22,8 @@ use Rattle.critical_laws.specs.Solutions.{IsExtension}
 use Rattle.critical_laws.proofs.Parts.{part-zeros, none-zeros}
 use Rattle.critical_laws.proofs.Settle.{settle_long, settle_meets, settle_outside}
 use Rattle.critical_complex.specs.Stages.{Stage, IsPaired, place_of}
-use Rattle.critical_complex.specs.Reaches.{match_at, cleared, IsFound, IsReach, Misses}
+use Rattle.critical_complex.specs.Reaches.{cleared, IsFound, IsReach, Misses}
+use Rattle.critical_complex.specs.Units.{pair_at}
 use Rattle.critical_complex.specs.Units.{no_match}
 use Rattle.critical_complex.proofs.Pairwise.{triangular_at}
 use Rattle.critical_complex.proofs.Placed.{place_below, part_set, none_set, same_list}
@@ -30,12 +31,12 @@ use Rattle.critical_complex.proofs.Searched.{map_all}
 
 -- ---- some of the pairs, in their order
 
-all_pairs : (P : Match → Type 0) (ps : List Match) (k : ℕ) → AllByRecursion P ps → k < length ps → P (match_at ps k)
+all_pairs : (P : Match → Type 0) (ps : List Match) (k : ℕ) → AllByRecursion P ps → k < length ps → P (pair_at ps k)
 all_pairs P [] k h lt = absurd (omega arith)
 all_pairs P (p ∷ ps) zero h lt = h.0
 all_pairs P (p ∷ ps) (suc k) h lt = all_pairs P ps k h.1 (omega arith)
 
-later_zero : (rows : List (List ℕ)) (ps : List Match) (i l : ℕ) → Triangular rows ps → i < l → l < length ps → entry rows ((match_at ps l).lower) ((match_at ps i).upper) ≡ 0
+later_zero : (rows : List (List ℕ)) (ps : List Match) (i l : ℕ) → Triangular rows ps → i < l → l < length ps → entry rows ((pair_at ps l).lower) ((pair_at ps i).upper) ≡ 0
 later_zero rows [] i l t lt ll = absurd (omega arith)
 later_zero rows (p ∷ ps) i zero t lt ll = absurd (omega arith)
 later_zero rows (p ∷ ps) zero (suc l) t lt ll = all_pairs (λ q. entry rows q.lower p.upper ≡ 0) ps l t.2 (omega arith)
@@ -47,7 +48,7 @@ within_in n order k h m = let c = In-Contains m in subst (λ (x : ℕ). x < n) c
 above_in : (a : ℕ) (order : List ℕ) (k : ℕ) → All (λ i. a < i) order → In k order → a < k
 above_in a order k h m = let c = In-Contains m in subst (λ (x : ℕ). a < x) c.2 (h c.0 k c.1)
 
-pub chosen_triangular : (rows : List (List ℕ)) (ps : List Match) (order : List ℕ) → Triangular rows ps → IsStrictlyIncreasing order → All (λ k. k < length ps) order → Triangular rows (map (match_at ps) order)
+pub chosen_triangular : (rows : List (List ℕ)) (ps : List Match) (order : List ℕ) → Triangular rows ps → IsStrictlyIncreasing order → All (λ k. k < length ps) order → Triangular rows (map (pair_at ps) order)
 chosen_triangular rows ps [] t r w = tt
 chosen_triangular rows ps (k ∷ order) t r w =
     let lk : k < length ps = w 0 0 (omega arith) in
@@ -55,12 +56,12 @@ chosen_triangular rows ps (k ∷ order) t r w =
     let at = triangular_at rows ps k no_match t lk in (
       at.0,
       at.1,
-      map_all (λ q. entry rows q.lower ((match_at ps k).upper) ≡ 0) ps order (λ i m. later_zero rows ps k i t (above_in k order i (increasing_head k order r) m) (within_in (length ps) order i rest m)),
+      map_all (λ q. entry rows q.lower ((pair_at ps k).upper) ≡ 0) ps order (λ i m. later_zero rows ps k i t (above_in k order i (increasing_head k order r) m) (within_in (length ps) order i rest m)),
       chosen_triangular rows ps order t (increasing_tail k order r) rest,
     )
 
 -- all of the pairs have it, so some of them
-pub chosen_all : (P : Match → Type 0) (ps : List Match) (order : List ℕ) → AllByRecursion P ps → All (λ k. k < length ps) order → AllByRecursion P (map (match_at ps) order)
+pub chosen_all : (P : Match → Type 0) (ps : List Match) (order : List ℕ) → AllByRecursion P ps → All (λ k. k < length ps) order → AllByRecursion P (map (pair_at ps) order)
 chosen_all P ps order h w = map_all P ps order (λ k m. all_pairs P ps k h (within_in (length ps) order k w m))
 
 pub triangular_lowers : (rows : List (List ℕ)) (ps : List Match) → Triangular rows ps → AllByRecursion (λ p. p.lower < length rows) ps

@@ -1,5 +1,5 @@
 -- The cells that the extension from one critical cell meets.
-use Rattle.std.specs.Prelude.{◌≡◌, ◌⊎◌, ℕ, ◌+◌, ◌<◌, ◌≤◌, List, [], ◌∷◌, Bool, true, All, Contains, map, length, set, slice_index, slice_index_or}
+use Rattle.std.specs.Prelude.{◌≡◌, ◌⊎◌, ℕ, ◌+◌, ◌<◌, ◌≤◌, List, [], ◌∷◌, Bool, true, All, Contains, map, length, set, slice_index}
 use Rattle.std.specs.List.{AllByRecursion}
 use Rattle.std.specs.List.Sorted.{IsStrictlyIncreasing}
 use Rattle.small_field.specs.Field.{Ops}
@@ -13,17 +13,14 @@ use Rattle.critical_laws.specs.Kinds.{criticals}
 use Rattle.critical_laws.specs.Pairs.{HasUpper, kind_at}
 use Rattle.critical_complex.specs.Stages.{Stage, place_of}
 use Rattle.critical_complex.specs.Signed.{signed_rows}
-use Rattle.critical_complex.specs.Units.{no_match}
-
-abbrev pub match_at : List Match → ℕ → Match
-match_at ps k = slice_index_or ps k no_match
+use Rattle.critical_complex.specs.Units.{pair_at}
 
 -- ---- indexes
 
 -- the index at a place is that of a pair with its upper there
 pub record HasPair (ps : List Match) (xs : List ℕ) (j : ℕ) : Type 0 where
   pub within : slice_index xs j < length ps
-  pub upper : (match_at ps (slice_index xs j)).upper ≡ j
+  pub upper : (pair_at ps (slice_index xs j)).upper ≡ j
 
 -- at each upper the index of its pair, and at each critical cell its index among the critical ones
 pub record AreIndexes (ps : List Match) (us : List Kind) (xs : List ℕ) : Type 0 where
@@ -55,7 +52,7 @@ HasCofaces space dim place found = HoldsAll (cofaces_of space dim (place + 1)) f
 -- the cofaces of the cell were found, and those of the lower of each upper that was found
 pub record IsClosed (space : List (List (List ℕ))) (dim : ℕ) (s next : Stage) (xs : List ℕ) (place : ℕ) (found : List ℕ) : Type 0 where
   pub begun : HasCofaces space dim place found
-  pub onward : (j : ℕ) → j < length next.kinds → holds found (j + 1) ≡ true → kind_at next.kinds j ≡ Upper → HasCofaces space dim ((match_at s.pairs (slice_index xs j)).lower) found
+  pub onward : (j : ℕ) → j < length next.kinds → holds found (j + 1) ≡ true → kind_at next.kinds j ≡ Upper → HasCofaces space dim ((pair_at s.pairs (slice_index xs j)).lower) found
 
 -- ---- the pairs that were found
 
@@ -80,7 +77,7 @@ pub record IsReach (s next : Stage) (place : ℕ) (found : List ℕ) (qs : List 
   pub order : List ℕ
   pub rises : IsStrictlyIncreasing order
   pub within : All (λ k. k < length s.pairs) order
-  pub is : qs ≡ map (match_at s.pairs) order
+  pub is : qs ≡ map (pair_at s.pairs) order
   pub upper : (j : ℕ) → j < length next.kinds → kind_at next.kinds j ≡ Upper → HasUpper qs j ⊎ Misses s.rows place qs j
   pub critical : (j : ℕ) → j < length next.kinds → kind_at next.kinds j ≡ Critical → (holds found (j + 1) ≡ true) ⊎ Misses s.rows place qs j
 

@@ -5,7 +5,8 @@ ghost use Rattle.critical_laws.specs.declared.kind.Kind.TheVariants.{Upper};
 ghost use Rattle.critical_laws.specs.Kinds.{criticals};
 ghost use Rattle.critical_laws.specs.Pairs.{kind_at};
 ghost use Rattle.critical_complex.specs.Stages.{place_of, IsPaired};
-ghost use Rattle.critical_complex.specs.Reaches.{match_at, HasPair, AreIndexes};
+ghost use Rattle.critical_complex.specs.Reaches.{HasPair, AreIndexes};
+ghost use Rattle.critical_complex.specs.Units.{pair_at};
 
 use crate::stage::Stage;
 use small_field::Field;
@@ -14,7 +15,7 @@ use std::alloc::{AllocError, Global};
 /// Puts the index of each pair at the place of its upper.
 fn put_pairs<F: Field>(stage: &Stage<F>, indexes: &mut [u32])
     requires { AllByRecursion (λ p. p.upper < length indexes.old) stage.now.pairs }
-    ensures { (k : ℕ) → k < length stage.now.pairs → HasPair stage.now.pairs indexes.new ((match_at stage.now.pairs k).upper) }
+    ensures { (k : ℕ) → k < length stage.now.pairs → HasPair stage.now.pairs indexes.new ((pair_at stage.now.pairs k).upper) }
 {
     for index in 0..stage.units() {
         indexes[stage.pair(index).upper as usize] = index;

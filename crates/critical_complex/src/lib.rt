@@ -1,11 +1,12 @@
 //! A signed set with a field of pairs of its cells, reduced to the critical cells: extensions of values at
-//! critical cells, the coboundaries of extensions, clearing, and units. Each is the unique solution of
+//! critical cells, the coboundaries of extensions, flows, clearing, and units. Each is the unique solution of
 //! linear conditions, found by substitution in the order of the field. (Discrete Morse theory; R. Forman.)
 #![tactic(auto)]
 
 mod cleared;
 mod coboundary;
 mod columns;
+mod flow;
 mod found;
 mod indexes;
 mod listing;

@@ -4,7 +4,8 @@ ghost use Rattle.std.specs.List.Sorted.{IsStrictlyIncreasing};
 ghost use Rattle.critical_laws.specs.declared.kind.Kind.TheVariants.{Upper};
 ghost use Rattle.critical_laws.specs.Pairs.{kind_at};
 ghost use Rattle.critical_complex.specs.Stages.{IsPaired};
-ghost use Rattle.critical_complex.specs.Reaches.{match_at, upper_index, AreDegrees, AreIndexes, HasCofaces, HasMore, HoldsAll, IsClosed, IsOrder, IsReach};
+ghost use Rattle.critical_complex.specs.Reaches.{upper_index, AreDegrees, AreIndexes, HasCofaces, HasMore, HoldsAll, IsClosed, IsOrder, IsReach};
+ghost use Rattle.critical_complex.specs.Units.{pair_at};
 
 use crate::found::Found;
 use crate::indexes::list_indexes;
@@ -64,7 +65,7 @@ fn follow<F: Field, G: Signed>(
     requires place { place < length next.now.kinds }
     ensures most { found.new.most ≡ found.old.most }
     ensures more { OnOk result (HasMore found.old.found found.new.found) }
-    ensures cofaces { OnOk result (kind_at next.now.kinds place ≡ Upper → HasCofaces (G.space graded.now) dim ((match_at stage.now.pairs (slice_index indexes.now place)).lower) found.new.found) }
+    ensures cofaces { OnOk result (kind_at next.now.kinds place ≡ Upper → HasCofaces (G.space graded.now) dim ((pair_at stage.now.pairs (slice_index indexes.now place)).lower) found.new.found) }
 {
     match next.kind(place) {
         Kind::Critical => Ok(()),
@@ -156,7 +157,7 @@ fn choose<F: Field>(
     chosen: &mut Vec<Match>,
 ) -> Result<(), AllocError>
     requires { All (λ k. k < length stage.now.pairs) order.now }
-    ensures { OnOk result (chosen.new.items ≡ map (match_at stage.now.pairs) order.now) }
+    ensures { OnOk result (chosen.new.items ≡ map (pair_at stage.now.pairs) order.now) }
 {
     chosen.clear();
     for index in order {
