@@ -19,3 +19,6 @@ mod unit;
 pub use cleared::Cleared;
 pub use reduced::Reduced;
 pub use unit::Unit;
+
+#[cfg(test)]
+mod tests;
