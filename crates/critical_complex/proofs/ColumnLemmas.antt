@@ -19,7 +19,7 @@ pub map_same : (f g : ℕ → ℕ) → ((a : ℕ) → f a ≡ g a) → (xs : Lis
 map_same f g h [] = refl
 map_same f g h (x ∷ xs) = ap (λ (y : ℕ). y ∷ map f xs) (h x) ∙ ap (λ (r : List ℕ). g x ∷ r) (map_same f g h xs)
 
-map_zeros : (a n : ℕ) → map {B = ℕ} (λ (x : ℕ). 0) (range_with_len a n) ≡ replicate n 0
+pub map_zeros : (a n : ℕ) → map {B = ℕ} (λ (x : ℕ). 0) (range_with_len a n) ≡ replicate n 0
 map_zeros a zero = refl
 map_zeros a (suc n) = ap (λ (r : List ℕ). 0 ∷ r) (map_zeros (a + 1) n)
 
@@ -85,7 +85,7 @@ module _ (F : Ops) where
     sum_below (c ∷ cs) (v ∷ vs) y = L.add_below (F.mul v (get_or y (c - 1) 0)) (sum_on F cs vs y)
 
     -- a cell more in a column
-    more : (n : ℕ) (c v : ℕ) (cs vs : List ℕ) → 1 ≤ c → c ≤ n → v < F.size → holds cs c ≡ false → bump F (map (coefficient cs vs) (upto n)) (c - 1) v ≡ map (coefficient (c ∷ cs) (v ∷ vs)) (upto n)
+    pub more : (n : ℕ) (c v : ℕ) (cs vs : List ℕ) → 1 ≤ c → c ≤ n → v < F.size → holds cs c ≡ false → bump F (map (coefficient cs vs) (upto n)) (c - 1) v ≡ map (coefficient (c ∷ cs) (v ∷ vs)) (upto n)
     more n c v cs vs low high lv fresh =
         let D : List ℕ = map (coefficient cs vs) (upto n) in
         let at : get_or D (c - 1) 0 ≡ 0 = get_or-map-range_with_len (coefficient cs vs) 1 n (c - 1) c 0 (omega arith) (omega arith) ∙ coefficient_none cs vs c fresh in

@@ -1,9 +1,9 @@
 -- A matrix filled with the coboundaries of extensions.
-use Rattle.std.proofs.Common.{◌≡◌, ◌≢◌, ◌⊎◌, inl, inr, ℕ, zero, suc, ◌+◌, ◌-◌, ◌≤◌, ◌<◌, List, [], ◌∷◌, length, length-set, replicate, get_or, set, get_or-set_same, get_or-set_other, refl, ap, sym, ◌∙◌, arith, subst}
+use Rattle.std.proofs.Common.{◌≡◌, inl, inr, ℕ, zero, suc, ◌+◌, ◌-◌, ◌≤◌, ◌<◌, List, [], ◌∷◌, length, replicate, get_or, set, get_or-set_same, get_or-set_other, refl, ap, sym, ◌∙◌, arith, subst}
 use Rattle.std.proofs.lemmas.Bool.{cases_eq}
 use Rattle.std.proofs.lemmas.Simd.{length-replicate}
 use Rattle.small_field.specs.Field.{Ops, IsField}
-use Rattle.small_field.proofs.Laws.{zero_below, neg_mul}
+use Rattle.small_field.proofs.Laws.{neg_mul}
 use Rattle.linear_algebra.specs.Marks.{mark}
 use Rattle.linear_algebra.specs.Vectors.{dot, column, combination, plus_scaled, row_at, AreElements, IsVector, IsMatrix}
 use Rattle.linear_algebra.proofs.Decide.{entry_combination}
@@ -15,59 +15,25 @@ use Rattle.critical_complex.proofs.Pairwise.{triangular_at}
 use Rattle.critical_laws.specs.declared.kind.Kind.{Kind}
 use Rattle.critical_laws.specs.declared.matching.Match.{Match}
 use Rattle.critical_laws.specs.Kinds.{criticals, part, spread, ZeroOnUppers, HasNoUpper}
-use Rattle.critical_laws.specs.Pairs.{IsMatching, settle}
+use Rattle.critical_laws.specs.Pairs.{settle}
 use Rattle.critical_laws.specs.Solutions.{IsExtension, IsReducedBy, IsCleared, without}
-use Rattle.critical_laws.proofs.Parts.{plus_none, part-long, part-zeros, none-zeros, spread_long, spread_elements, spread_own, spread_none}
+use Rattle.critical_laws.proofs.Parts.{plus_none, part-long, spread_long, spread_elements, spread_own, spread_none}
 use Rattle.critical_laws.proofs.Fields.{extended, split_of_field, cleared, settled-vector}
 use Rattle.critical_laws.proofs.Solved.{extension_is_one}
 use Rattle.critical_complex.specs.Stages.{Stage, IsPaired, place_of}
-use Rattle.critical_complex.specs.Blanks.{IsBlank, HasRow}
-use Rattle.critical_complex.proofs.Placed.{place_below, part_at, part_set, none_set, same_list}
+use Rattle.critical_complex.specs.Blanks.{HasRow}
+use Rattle.critical_complex.proofs.Placed.{place_below, part_at}
 
-set_twice : {X : Type 0} (xs : List X) (i : ℕ) (a b : X) → set (set xs i a) i b ≡ set xs i b
+pub set_twice : {X : Type 0} (xs : List X) (i : ℕ) (a b : X) → set (set xs i a) i b ≡ set xs i b
 set_twice [] i a b = refl
 set_twice (x ∷ xs) zero a b = refl
 set_twice {X} (x ∷ xs) (suc i) a b = ap (λ (r : List X). x ∷ r) (set_twice xs i a b)
-
-set_zeros : (c i : ℕ) → set (replicate {A = ℕ} c 0) i 0 ≡ replicate c 0
-set_zeros zero i = refl
-set_zeros (suc c) zero = refl
-set_zeros (suc c) (suc i) = ap (λ (r : List ℕ). 0 ∷ r) (set_zeros c i)
-
--- ---- one row, entry by entry
-
-pub record RowFilled (rows0 rows : List (List ℕ)) (row cols col : ℕ) (target : List ℕ) : Type 0 where
-  pub others : rows ≡ set rows0 row (get_or rows row [])
-  pub long : length (get_or rows row []) ≡ cols
-  pub same : (j : ℕ) → j < col → get_or (get_or rows row []) j 0 ≡ get_or target j 0
-
-pub entry_more : (rows0 rows now : List (List ℕ)) (row cols col v : ℕ) (target : List ℕ) → row < length rows0 → col < cols → rows ≡ set rows0 row (get_or rows row []) → length (get_or rows row []) ≡ cols
-    → ((j : ℕ) → j < col → get_or (get_or rows row []) j 0 ≡ get_or target j 0) → now ≡ set rows row (set (get_or rows row []) col v) → v ≡ get_or target col 0 → RowFilled rows0 now row cols (col + 1) target
-entry_more rows0 rows now row cols col v target lr lc others long same e g =
-    let r : List ℕ = set (get_or rows row []) col v in
-    let lrow : row < length rows = subst (λ (n : ℕ). row < n) (sym (ap (λ (x : List (List ℕ)). length x) others ∙ length-set rows0 row (get_or rows row []))) lr in
-    let at : get_or now row [] ≡ r = ap (λ (x : List (List ℕ)). get_or x row []) e ∙ get_or-set_same rows row r [] lrow in
-    record {
-      others = e ∙ (ap (λ (x : List (List ℕ)). set x row r) others ∙ (set_twice rows0 row (get_or rows row []) r ∙ ap (set rows0 row) (sym at)));
-      long = ap (λ (x : List ℕ). length x) at ∙ (length-set (get_or rows row []) col v ∙ long);
-      same = λ j lj.
-          ap (λ (x : List ℕ). get_or x j 0) at
-          ∙ elim (cases_eq j col) [
-            | inl b ↦ ap (λ (k : ℕ). get_or r k 0) b ∙ (get_or-set_same (get_or rows row []) col v 0 (subst (λ (n : ℕ). col < n) (sym long) lc) ∙ (g ∙ ap (λ (k : ℕ). get_or target k 0) (sym b)))
-            | inr b ↦ get_or-set_other (get_or rows row []) col j v 0 b ∙ same j (omega arith)
-          ];
-    }
-
-pub row_final : (rows0 rows : List (List ℕ)) (row cols col : ℕ) (target : List ℕ) → length target ≡ cols → cols ≤ col → rows ≡ set rows0 row (get_or rows row []) → length (get_or rows row []) ≡ cols
-    → ((j : ℕ) → j < col → get_or (get_or rows row []) j 0 ≡ get_or target j 0) → rows ≡ set rows0 row target
-row_final rows0 rows row cols col target lt le others long same =
-    others ∙ ap (set rows0 row) (same_list (get_or rows row []) target (long ∙ sym lt) (λ i li. same i (omega arith)))
 
 module _ (F : Ops) (L : IsField F) where
   zeros-vector : (n : ℕ) → IsVector F n (replicate n 0)
   zeros-vector n = record { long = length-replicate n 0; elements = zeros-elements F L n }
 
-  set_below : (xs : List ℕ) (i v : ℕ) → v < F.size → AreElements F xs → AreElements F (set xs i v)
+  pub set_below : (xs : List ℕ) (i v : ℕ) → v < F.size → AreElements F xs → AreElements F (set xs i v)
   set_below [] i v l h = h
   set_below (x ∷ xs) zero v l h = (l, h.1)
   set_below (x ∷ xs) (suc i) v l h = (h.0, set_below xs i v l h.1)
@@ -81,49 +47,7 @@ module _ (F : Ops) (L : IsField F) where
   pub target_long : (m : ℕ) (rows : List (List ℕ)) (us : List Kind) (x : List ℕ) → IsMatrix F m rows → length us ≡ m → length (part us (combination F m x rows)) ≡ criticals us
   target_long m rows us x a l = part-long us (combination F m x rows) ((combination-vector F L m x rows a).long ∙ sym l)
 
-  pub blank_zeros : (ts : List Kind) (n : ℕ) (x : List ℕ) → n ≡ length ts → x ≡ replicate n 0 → IsBlank F ts x
-  blank_zeros ts n x l e =
-      let h : x ≡ replicate (length ts) 0 = e ∙ ap (λ (k : ℕ). replicate k 0) l in
-      subst (IsBlank F ts) (sym h) (record { vector = zeros-vector (length ts); part_zero = part-zeros ts (length ts) refl; uppers = none-zeros ts (length ts) refl })
-
-  -- a blank cochain with 1 at one critical cell
-  record Marked (ts : List Kind) (x : List ℕ) (row : ℕ) : Type 0 where
-    vector : IsVector F (length ts) x
-    own : part ts x ≡ mark (criticals ts) row
-    none : ZeroOnUppers ts x
-
-  marked : (ts : List Kind) (x now : List ℕ) (row p one : ℕ) → IsBlank F ts x → row < criticals ts → p ≡ place_of ts row → one ≡ 1 → now ≡ set x p one → Marked ts now row
-  marked ts x now row p one b lt e o s =
-      let h : now ≡ set x (place_of ts row) 1 = s ∙ (ap (λ (k : ℕ). set x k one) e ∙ ap (set x (place_of ts row)) o) in
-      subst (λ (y : List ℕ). Marked ts y row) (sym h)
-      (record {
-        vector = record { long = length-set x (place_of ts row) 1 ∙ b.vector.long; elements = set_below x (place_of ts row) 1 L.one_below b.vector.elements };
-        own = part_set ts x row 1 b.vector.long lt ∙ ap (λ (w : List ℕ). set w row 1) b.part_zero;
-        none = none_set ts x row 1 lt b.uppers;
-      })
-
   module _ (s next : Stage) (P : IsPaired F s next) where
-    -- what is settled from a marked cochain is the extension of the mark
-    pub extension_of : (x x1 x2 zeros : List ℕ) (row p one : ℕ) → IsBlank F s.kinds x → row < criticals s.kinds → p ≡ place_of s.kinds row → one ≡ 1 → x1 ≡ set x p one → zeros ≡ replicate (length next.kinds) 0
-        → x2 ≡ settle F s.rows zeros s.pairs x1 → IsExtension F (length s.kinds) (length next.kinds) s.rows s.kinds next.kinds (mark (criticals s.kinds) row) x2
-    extension_of x x1 x2 zeros row p one b lt e o h z g =
-        let k : Marked s.kinds x1 row = marked s.kinds x x1 row p one b lt e o h in
-        subst (IsExtension F (length s.kinds) (length next.kinds) s.rows s.kinds next.kinds (mark (criticals s.kinds) row)) (sym (g ∙ ap (λ (t : List ℕ). settle F s.rows t s.pairs x1) z))
-        (extended F L (length s.kinds) (length next.kinds) s.rows s.kinds next.kinds s.pairs P.matching (mark (criticals s.kinds) row) x1 k.vector k.own k.none)
-
-    -- and with 0 put there again it is blank
-    pub blank_again : (x x1 x2 x3 zeros : List ℕ) (row p one none : ℕ) → IsBlank F s.kinds x → row < criticals s.kinds → p ≡ place_of s.kinds row → one ≡ 1 → x1 ≡ set x p one → zeros ≡ replicate (length next.kinds) 0
-        → x2 ≡ settle F s.rows zeros s.pairs x1 → none ≡ 0 → x3 ≡ set x2 p none → IsBlank F s.kinds x3
-    blank_again x x1 x2 x3 zeros row p one none b lt e o h z g n q =
-        let ex = extension_of x x1 x2 zeros row p one b lt e o h z g in
-        let i : x3 ≡ set x2 (place_of s.kinds row) 0 = q ∙ (ap (λ (k : ℕ). set x2 k none) e ∙ ap (set x2 (place_of s.kinds row)) n) in
-        subst (IsBlank F s.kinds) (sym i)
-        (record {
-          vector = record { long = length-set x2 (place_of s.kinds row) 0 ∙ ex.vector.long; elements = set_below x2 (place_of s.kinds row) 0 (zero_below F L) ex.vector.elements };
-          part_zero = part_set s.kinds x2 row 0 ex.vector.long lt ∙ (ap (λ (w : List ℕ). set w row 0) ex.own ∙ (set_twice (replicate (criticals s.kinds) 0) row 1 0 ∙ set_zeros (criticals s.kinds) row));
-          uppers = none_set s.kinds x2 row 0 lt ex.none;
-        })
-
     -- ---- row by row
 
     pub rows_more : (old new : List (List ℕ)) (row : ℕ) → row < length old → HasRow F s next old new row
@@ -225,7 +149,7 @@ none_upper (Critical ∷ ts) (x ∷ xs) h l = none_upper ts xs h (omega arith)
 none_upper (Lower ∷ ts) (x ∷ xs) h l = none_upper ts xs h (omega arith)
 none_upper (Upper ∷ ts) (x ∷ xs) h l = absurd h
 
-plus_zeros_at : (F : Ops) (L : IsField F) (s m : ℕ) (x : List ℕ) → length x ≡ m → AreElements F x → plus_scaled F s x (replicate m 0) ≡ x
+pub plus_zeros_at : (F : Ops) (L : IsField F) (s m : ℕ) (x : List ℕ) → length x ≡ m → AreElements F x → plus_scaled F s x (replicate m 0) ≡ x
 plus_zeros_at F L s zero [] l el = refl
 plus_zeros_at F L s zero (x ∷ xs) l el = absurd (omega arith)
 plus_zeros_at F L s (suc m) [] l el = absurd (omega arith)

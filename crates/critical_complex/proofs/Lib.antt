@@ -6,3 +6,9 @@ pub mod SignedLemmas
 pub mod KindLemmas
 pub mod Matching
 pub mod Filling
+pub mod Indexed
+pub mod Searched
+pub mod Sparse
+pub mod Rows
+pub mod Flows
+pub mod UnitLemmas

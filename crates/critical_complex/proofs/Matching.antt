@@ -1,28 +1,31 @@
 -- A valid field of a signed set is a matching between each two dimensions.
-use Rattle.std.proofs.Common.{◌≡◌, ◌≢◌, ◌⊎◌, inl, inr, ℕ, zero, suc, ◌+◌, ◌-◌, ◌≤◌, ◌<◌, List, [], ◌∷◌, ◌++◌, Bool, true, false, cond, ◌&&◌, not, nat_lt, nat_le, eqb, filter, length, map, get_or, refl, ap, sym, ◌∙◌, arith, subst, Contains}
+use Rattle.std.proofs.Common.{◌≡◌, ◌≢◌, ◌⊎◌, inl, inr, ℕ, suc, ◌+◌, ◌-◌, ◌≤◌, ◌<◌, List, [], ◌∷◌, ◌++◌, Bool, true, false, cond, ◌&&◌, not, nat_lt, nat_le, eqb, filter, length, map, get_or, refl, ap, sym, ◌∙◌, arith, subst}
 use Rattle.std.specs.List.{AllByRecursion}
 use Rattle.std.proofs.lemmas.Bool.{eqb-true, eq-eqb, and_parts, not_from_false, leb-true, ltb-true, cases_eq}
 use Rattle.std.proofs.lemmas.List.FromFn.{length-map-range_with_len, get_or-map-range_with_len}
 use Rattle.small_field.specs.Field.{Ops, IsField}
 use Rattle.small_field.proofs.Laws.{neg_neg, neg_zero, zero_below}
-use Rattle.linear_algebra.specs.Vectors.{entry, row_at, IsVector, IsMatrix}
+use Rattle.linear_algebra.specs.Vectors.{entry, IsVector, IsMatrix}
 use Rattle.face_poset.specs.declared.cells.Pair.{Pair}
 use Rattle.face_poset.specs.Words.{upto, holds}
 use Rattle.face_poset.specs.Poset.{count, facets_of}
 use Rattle.face_poset.proofs.Members.{differ, length-upto}
-use Rattle.vector_field.specs.Pairs.{pair, is_used, is_incident, others, IsValid}
+use Rattle.vector_field.specs.Pairs.{pair, is_incident, IsValid}
 use Rattle.vector_field.proofs.Members.{In, here, there, In-cases, In-filter, any-none, Contains-In}
 use Rattle.vector_field.proofs.Lined.{Lined, lined-two}
-use Rattle.vector_field.proofs.Valid.{Goes, IsLined, lined-from, unused-In}
+use Rattle.vector_field.proofs.Valid.{Goes, lined-from, unused-In}
 use Rattle.critical_laws.specs.declared.kind.Kind.{Kind}
 use Rattle.critical_laws.specs.declared.kind.Kind.TheVariants.{Critical, Lower, Upper}
 use Rattle.critical_laws.specs.declared.matching.Match.{Match}
-use Rattle.critical_laws.specs.Kinds.{HasNoUpper}
-use Rattle.critical_laws.specs.Pairs.{Triangular, HasLower, HasUpper, KindsOf, IsMatching, kind_at}
+use Rattle.critical_laws.specs.Kinds.{criticals, HasNoUpper}
+use Rattle.critical_laws.specs.Pairs.{Triangular, HasLower, HasUpper, IsMatching, kind_at}
 use Rattle.critical_complex.specs.Stages.{Stage, IsPaired, empty_stage}
-use Rattle.critical_complex.specs.Splits.{IsReductionOf, IsSplitting, stage_at}
+use Rattle.critical_complex.specs.Splits.{IsReductionOf, IsSplitting, IsMatrixOf, AreMatrices, no_rows, stage_at}
+use Rattle.field_matrix.specs.Rows.{Rows}
+use Rattle.critical_laws.specs.Solutions.{IsReducedBy}
 use Rattle.std.proofs.lemmas.List.{length-append, get_or_append_left}
 use Rattle.std.proofs.Math.Seq.{get_or-append_seam}
+use Rattle.critical_complex.specs.Reaches.{AreDegrees}
 use Rattle.critical_complex.specs.Signed.{sign_element, signed_entry, signed_rows, match_of, matches_of, IsKind, AreKinds, IsStageOf}
 
 -- ---- pairs of one dimension
@@ -261,6 +264,15 @@ splitting F L space negative pairs stages now V r e =
       bottom = first_kinds pairs (count space 0) (stage_at stages 0).kinds (r.each 0 (omega arith)).kinds;
     })
 
+-- each two of them, one after the other
+pub degrees_of : (F : Ops) (space : List (List (List ℕ))) (negative : ℕ → ℕ → ℕ → Bool) (pairs : List Pair) (stages now : List Stage) → IsReductionOf F space negative pairs stages → now ≡ stages
+    → (degree : ℕ) → degree < 4 → AreDegrees F space negative degree (stage_at now degree) (stage_at now (suc degree))
+degrees_of F space negative pairs stages now r e degree lt =
+    subst (λ (xs : List Stage). AreDegrees F space negative degree (stage_at xs degree) (stage_at xs (suc degree))) (sym e)
+    (let a = r.each degree (omega arith) in
+    let b = r.each (suc degree) (omega arith) in
+    record { rows = a.rows; cells = a.kinds.long; above = b.kinds.long ∙ ap (count space) (let g : suc degree ≡ degree + 1 = omega arith in g) })
+
 pub stages_more : (F : Ops) (space : List (List (List ℕ))) (negative : ℕ → ℕ → ℕ → Bool) (pairs : List Pair) (stages now : List Stage) (s : Stage) (i : ℕ) → length stages ≡ i
     → ((degree : ℕ) → degree < i → IsStageOf F space negative pairs degree (stage_at stages degree)) → IsStageOf F space negative pairs i s → now ≡ stages ++ s ∷ []
     → (length now ≡ i + 1) × ((degree : ℕ) → degree < i + 1 → IsStageOf F space negative pairs degree (stage_at now degree))
@@ -275,3 +287,19 @@ stages_more F space negative pairs stages now s i l before last e = (
         | inr b ↦ subst (IsStageOf F space negative pairs j) (sym (get_or_append_left stages (s ∷ []) empty_stage j (omega arith))) (before j (omega arith))
       ])),
 )
+
+pub matrices_more : (F : Ops) (stages : List Stage) (i : ℕ) (matrices now : List Rows) (m : Rows) (s next : Stage) → AreMatrices F stages i matrices → s ≡ stage_at stages i → next ≡ stage_at stages (suc i)
+    → m.cols ≡ criticals next.kinds → IsReducedBy F (length s.kinds) (length next.kinds) s.rows s.kinds next.kinds m.rows → now ≡ matrices ++ m ∷ [] → AreMatrices F stages (i + 1) now
+matrices_more F stages i matrices now m s next h es en cols rows e = record {
+  long = ap (λ (xs : List Rows). length xs) e ∙ (length-append matrices (m ∷ []) ∙ ap (λ (n : ℕ). n + 1) h.long);
+  each = λ j lj.
+      subst (λ (xs : List Rows). IsMatrixOf F (stage_at stages j) (stage_at stages (suc j)) (get_or xs j no_rows)) (sym e)
+      (elim (cases_eq j i) [
+        | inl b ↦
+            let last : IsMatrixOf F s next m = record { cols = cols; reduced = rows } in
+            let there : IsMatrixOf F (stage_at stages i) (stage_at stages (suc i)) m = subst (λ (t : Stage). IsMatrixOf F t (stage_at stages (suc i)) m) es (subst (λ (t : Stage). IsMatrixOf F s t m) en last) in
+            subst (λ (n : ℕ). IsMatrixOf F (stage_at stages n) (stage_at stages (suc n)) (get_or (matrices ++ m ∷ []) n no_rows)) (sym b)
+            (subst (IsMatrixOf F (stage_at stages i) (stage_at stages (suc i))) (sym (ap (λ (n : ℕ). get_or (matrices ++ m ∷ []) n no_rows) (sym h.long) ∙ get_or-append_seam matrices m [] no_rows)) there)
+        | inr b ↦ subst (IsMatrixOf F (stage_at stages j) (stage_at stages (suc j))) (sym (get_or_append_left matrices (m ∷ []) no_rows j (let l : length matrices ≡ i = h.long in omega arith))) (h.each j (omega arith))
+      ]);
+}

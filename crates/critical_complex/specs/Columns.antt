@@ -1,6 +1,7 @@
 -- Columns of a matrix, each by cells of the lower degree, numbered from 1, with coefficients.
 use Rattle.std.specs.Prelude.{◌≡◌, ⊤, ℕ, ◌-◌, ◌≤◌, ◌<◌, ◌==◌, List, [], ◌∷◌, false, cond, map, slice_index}
 use Rattle.small_field.specs.Field.{Ops}
+use Rattle.linear_algebra.specs.Vectors.{bump}
 use Rattle.face_poset.specs.Words.{upto, holds}
 
 -- the coefficient of a cell in a column
@@ -24,6 +25,12 @@ abbrev pub sum_on : Ops → (cells values : List ℕ) → List ℕ → ℕ
 sum_on F [] vs y = 0
 sum_on F (c ∷ cs) [] y = 0
 sum_on F (c ∷ cs) (v ∷ vs) y = F.add (F.mul v (slice_index y (c - 1))) (sum_on F cs vs y)
+
+-- a factor times the coefficients, each added to the number at its cell
+abbrev pub add_on : Ops → (cells values : List ℕ) → (factor : ℕ) → List ℕ → List ℕ
+add_on F [] vs factor b = b
+add_on F (c ∷ cs) [] factor b = b
+add_on F (c ∷ cs) (v ∷ vs) factor b = add_on F cs vs factor (bump F b (c - 1) (F.mul factor v))
 
 -- different cells from 1 to `below`, each with an element
 abbrev pub IsColumn : Ops → (below : ℕ) → (cells values : List ℕ) → Type 0

@@ -4,3 +4,4 @@ pub mod Signed
 pub mod Blanks
 pub mod Splits
 pub mod Units
+pub mod Reaches

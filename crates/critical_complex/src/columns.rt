@@ -3,7 +3,7 @@ ghost use Rattle.std.specs.Prelude.{◌≡◌, ◌+◌, ◌<◌, ◌≤◌, leng
 ghost use Rattle.linear_algebra.specs.Vectors.{column, dot, entry, plus_scaled};
 ghost use Rattle.face_poset.specs.Poset.{count};
 ghost use Rattle.critical_complex.specs.Signed.{signed_rows};
-ghost use Rattle.critical_complex.specs.Columns.{coefficient, sum_on, IsColumn, AreColumns};
+ghost use Rattle.critical_complex.specs.Columns.{coefficient, sum_on, add_on, IsColumn, AreColumns};
 
 use crate::listing::put_signs;
 use face_poset::{Lists, Signed};
@@ -60,6 +60,18 @@ fn sum_over<F: Field>(cells: &[u32], values: &[u32], y: &Cochain<F>) -> F
     total
 }
 
+/// Adds a factor times each coefficient of a column to the value at its cell.
+fn add_over<F: Field>(cells: &[u32], values: &[u32], factor: F, chain: &mut Cochain<F>)
+    requires { IsColumn F.ops (length chain.old) cells.now values.now }
+    ensures { chain.new ≡ add_on F.ops cells.now values.now (F.number_of factor) chain.old }
+{
+    for index in 0..cells.len() {
+        let share = factor.mul(F::from_number(values[index]));
+        let value = chain.get(cells[index]).add(share);
+        chain.set(cells[index], value);
+    }
+}
+
 impl<F: Field> Columns<F> {
     /// The coboundary of a cochain at a cell of the next degree.
     pub(crate) fn coboundary_at(&self, y: &Cochain<F>, upper: u32) -> F
@@ -82,6 +94,18 @@ impl<F: Field> Columns<F> {
         let cells = self.cells.get(upper as usize);
         let values = self.values.get(upper as usize);
         F::from_number(coefficient_in(cells, values, lower + 1))
+    }
+
+    /// Adds a factor times the boundary of a cell of the next degree to a chain.
+    pub(crate) fn add_boundary(&self, upper: u32, factor: F, chain: &mut Cochain<F>)
+        requires below { length chain.old ≡ length self.now.rows }
+        requires upper { upper < self.now.cols }
+        ensures { chain.new ≡ plus_scaled F.ops (F.number_of factor) chain.old (column upper self.now.rows) }
+    {
+        let _elements = chain.len();
+        let cells = self.cells.get(upper as usize);
+        let values = self.values.get(upper as usize);
+        add_over(cells, values, factor, chain);
     }
 }
 

@@ -1,12 +1,16 @@
 //! A signed set with a field of pairs of its cells, reduced to the critical cells: extensions of values at
-//! critical cells, the coboundaries of extensions, clearing, and units. Each is the unique solution of
+//! critical cells, the coboundaries of extensions, flows, clearing, and units. Each is the unique solution of
 //! linear conditions, found by substitution in the order of the field. (Discrete Morse theory; R. Forman.)
 #![tactic(auto)]
 
 mod cleared;
 mod coboundary;
 mod columns;
+mod flow;
+mod found;
+mod indexes;
 mod listing;
+mod reach;
 mod reduced;
 mod stage;
 mod substitution;
@@ -15,3 +19,6 @@ mod unit;
 pub use cleared::Cleared;
 pub use reduced::Reduced;
 pub use unit::Unit;
+
+#[cfg(test)]
+mod tests;

@@ -1,14 +1,16 @@
 // The reduction of a signed set to the critical cells of a field of pairs.
-ghost use Rattle.std.specs.Prelude.{◌≡◌, ◌+◌, ◌<◌, ◌≤◌, length, slice_index_or, IfOk};
+ghost use Rattle.std.specs.Prelude.{◌≡◌, ◌+◌, ◌<◌, ◌≤◌, ℕ, suc, length, IfOk};
 ghost use Rattle.vector_field.specs.Pairs.{IsFieldOf};
 ghost use Rattle.critical_laws.specs.Kinds.{criticals};
-ghost use Rattle.critical_laws.specs.Solutions.{IsCleared, IsExtension, IsReducedBy};
+ghost use Rattle.critical_laws.specs.Solutions.{IsCleared, IsExtension, IsFlow, IsReducedBy};
 ghost use Rattle.critical_complex.specs.Stages.{critical_from, IsPaired};
-ghost use Rattle.critical_complex.specs.Units.{IsUnitOf, no_match};
+ghost use Rattle.critical_complex.specs.Reaches.{AreDegrees};
+ghost use Rattle.critical_complex.specs.Units.{uppers, pair_at, IsTriangular, IsUnitOf, MatchUppers};
 ghost use Rattle.critical_complex.specs.Splits.{stage_at, stage_before, cells_at, kinds_at, rows_at, AreMatrices, IsReductionOf, IsSplitting};
 
 use crate::cleared::Cleared;
 use crate::coboundary::coboundary_matrix;
+use crate::flow::{flow, flow_first};
 use crate::stage::Stage;
 use crate::unit::Unit;
 use face_poset::Signed;
@@ -56,13 +58,20 @@ fn list_stages<F: Field, G: Signed>(
 }
 
 /// The coboundaries of the extensions, for each degree.
-fn list_matrices<F: Field>(alloc: Global, stages: &[Stage<F>]) -> Result<Vec<Matrix<F>>, AllocError>
-    requires { IsSplitting F.ops stages.now }
+fn list_matrices<F: Field, G: Signed>(
+    alloc: Global,
+    graded: &G,
+    stages: &[Stage<F>],
+) -> Result<Vec<Matrix<F>>, AllocError>
+    requires splitting { IsSplitting F.ops stages.now }
+    requires degrees { (degree : ℕ) → degree < 4 → AreDegrees F.ops (G.space graded.now) (G.negative graded.now) degree (stage_at stages.now degree) (stage_at stages.now (suc degree)) }
     ensures { IfOk result (λ matrices. AreMatrices F.ops stages.now 4 matrices.items) }
 {
     let mut matrices = Vec::new(alloc);
-    for index in 0..4 {
-        let matrix = coboundary_matrix(alloc, &stages[index], &stages[index + 1])?;
+    for dim in 0..4 {
+        let stage = &stages[dim as usize];
+        let next = &stages[dim as usize + 1];
+        let matrix = coboundary_matrix(alloc, graded, dim, stage, next)?;
         matrices.push(matrix)?;
     }
     Ok(matrices)
@@ -80,7 +89,7 @@ impl<F: Field> Reduced<F> {
         ensures splitting { IfOk result (IsSplitting F.ops) }
     {
         let stages = list_stages(alloc, graded, field)?;
-        let matrices = list_matrices(alloc, &stages)?;
+        let matrices = list_matrices(alloc, graded, &stages)?;
         Ok(Reduced { stages, matrices })
     }
 
@@ -116,6 +125,20 @@ impl<F: Field> Reduced<F> {
         stage.extension(alloc, &stages[dim as usize + 1], w)
     }
 
+    /// The one chain that has these values at the critical cells and is 0 on lowers, and whose boundary is 0 on
+    /// lowers of one degree less.
+    pub fn flow(&self, alloc: Global, dim: u8, c: &Row<F>) -> Result<Cochain<F>, AllocError>
+        requires degree { dim ≤ 3 }
+        requires values { length c.now ≡ criticals (kinds_at self.now dim) }
+        ensures { IfOk result (IsFlow F.ops (length (stage_before self.now dim).kinds) (cells_at self.now dim) (stage_before self.now dim).rows (stage_before self.now dim).kinds (kinds_at self.now dim) c.now) }
+    {
+        let stages: &[Stage<F>] = &self.stages;
+        if dim == 0 {
+            return flow_first(alloc, &stages[0], c);
+        }
+        flow(alloc, &stages[dim as usize - 1], &stages[dim as usize], c)
+    }
+
     /// Clears a cochain: the one cochain of one degree less, on its lowers, whose coboundary is the cochain on
     /// uppers, and what remains on the critical cells when the coboundary is taken away.
     pub fn clear(&self, alloc: Global, dim: u8, x: &Cochain<F>) -> Result<Cleared<F>, AllocError>
@@ -130,10 +153,13 @@ impl<F: Field> Reduced<F> {
         stages[dim as usize - 1].clearing(alloc, &stages[dim as usize], x)
     }
 
-    /// How many uppers of one degree more there are, each with a lower of the degree.
+    /// How many units there are: as many as uppers of one degree more, each of which is the right side of exactly
+    /// one.
     pub fn units(&self, dim: u8) -> u32
         requires { dim ≤ 3 }
-        ensures { result ≡ length (stage_at self.now dim).pairs }
+        ensures pairs { result ≡ length (stage_at self.now dim).pairs }
+        ensures uppers { result ≡ uppers (kinds_at self.now (dim + 1)) }
+        ensures each { MatchUppers (stage_at self.now dim).pairs (kinds_at self.now (dim + 1)) }
     {
         self.stages[dim as usize].units()
     }
@@ -143,7 +169,8 @@ impl<F: Field> Reduced<F> {
     pub fn unit(&self, alloc: Global, dim: u8, index: u32) -> Result<Unit, AllocError>
         requires degree { dim ≤ 3 }
         requires index { index < length (stage_at self.now dim).pairs }
-        ensures { IfOk result (IsUnitOf (slice_index_or (stage_at self.now dim).pairs index no_match)) }
+        ensures unit { IfOk result (IsUnitOf (pair_at (stage_at self.now dim).pairs index)) }
+        ensures triangular { IfOk result (IsTriangular F.ops (stage_at self.now dim) (stage_at self.now (dim + 1)) index) }
     {
         let stages: &[Stage<F>] = &self.stages;
         stages[dim as usize].unit(alloc, &stages[dim as usize + 1], index)

@@ -1,16 +1,18 @@
 // What is kept of one degree.
-ghost use Rattle.std.specs.Prelude.{◌≡◌, ◌<◌, ◌≤◌, [], length, slice_index_or, IfOk};
-ghost use Rattle.linear_algebra.specs.Vectors.{column, dot};
+ghost use Rattle.std.specs.Prelude.{◌≡◌, ◌<◌, ◌≤◌, [], length, replicate, IfOk};
+ghost use Rattle.linear_algebra.specs.Vectors.{boundary as boundary_of, column, dot, plus_scaled};
 ghost use Rattle.critical_laws.specs.Kinds.{criticals, part, spread, HasNoUpper};
 ghost use Rattle.critical_laws.specs.Solutions.{IsCleared, IsExtension, without};
-ghost use Rattle.critical_complex.specs.Units.{IsUnitOf, no_match};
+ghost use Rattle.critical_complex.specs.Units.{IsTriangular, IsUnitOf, pair_at};
 ghost use Rattle.critical_complex.specs.Stages.{critical_from, place_of, IsSmall, IsPaired};
 ghost use Rattle.vector_field.specs.Pairs.{IsFieldOf};
-ghost use Rattle.critical_laws.specs.Pairs.{settle as settled};
+ghost use Rattle.std.specs.List.{AllByRecursion};
+ghost use Rattle.critical_laws.specs.Pairs.{carry as carried, kind_at, settle as settled, Triangular};
 ghost use Rattle.critical_complex.specs.Signed.{IsStageOf};
 
 use crate::cleared::Cleared;
 use crate::columns::Columns;
+use crate::flow::carry;
 use crate::listing::{list_critical, list_kinds, list_pairs};
 use crate::substitution::settle;
 use crate::unit::Unit;
@@ -118,6 +120,61 @@ impl<F: Field> Stage<F> {
         settle(&self.columns, &self.pairs, t, x);
     }
 
+    /// The same for some of the pairs, in the order of the field.
+    pub(crate) fn settle_chosen(
+        &self,
+        next: &Stage<F>,
+        pairs: &[Match],
+        t: &Cochain<F>,
+        x: &mut Cochain<F>,
+    )
+        requires paired { IsPaired F.ops self.now next.now }
+        requires triangular { Triangular self.now.rows pairs.now }
+        requires uppers { AllByRecursion (λ p. p.upper < length next.now.kinds) pairs.now }
+        requires above { length t.now ≡ length next.now.kinds }
+        requires below { length x.old ≡ length self.now.kinds }
+        ensures { x.new ≡ settled F.ops self.now.rows t.now pairs.now x.old }
+    {
+        settle(&self.columns, pairs, t, x);
+    }
+
+    /// What the cell at a place is.
+    pub(crate) fn kind(&self, place: u32) -> Kind
+        requires { place < length self.now.kinds }
+        ensures { result ≡ kind_at self.now.kinds place }
+    {
+        self.kinds[place as usize]
+    }
+
+    /// A pair, by its index.
+    pub(crate) fn pair(&self, index: u32) -> Match
+        requires { index < length self.now.pairs }
+        ensures { result ≡ pair_at self.now.pairs index }
+    {
+        self.pairs[index as usize]
+    }
+
+    /// Adds a factor times the boundary of a cell of the next degree, given by its place, to a chain.
+    pub(crate) fn add_boundary(&self, place: u32, factor: F, chain: &mut Cochain<F>)
+        requires below { length chain.old ≡ length self.now.kinds }
+        requires place { place < self.now.cols }
+        ensures { chain.new ≡ plus_scaled F.ops (F.number_of factor) chain.old (column place self.now.rows) }
+    {
+        let _small = self.len();
+        self.columns.add_boundary(place, factor, chain);
+    }
+
+    /// Changes a chain of the next degree at the uppers, so that its boundary is zero at the lowers; the
+    /// boundary is changed with it.
+    pub(crate) fn carry(&self, next: &Stage<F>, boundary: &mut Cochain<F>, z: &mut Cochain<F>)
+        requires paired { IsPaired F.ops self.now next.now }
+        requires above { length z.old ≡ length next.now.kinds }
+        requires boundary { boundary.old ≡ boundary_of F.ops self.now.rows z.old }
+        ensures { z.new ≡ carried F.ops self.now.rows (replicate (length self.now.rows) 0) self.now.pairs z.old }
+    {
+        carry(&self.columns, &self.pairs, boundary, z);
+    }
+
     /// The critical cells, increasing.
     pub(crate) fn critical(&self) -> &[u32]
         ensures { result.now ≡ critical_from 1 self.now.kinds }
@@ -217,7 +274,8 @@ impl<F: Field> Stage<F> {
     ) -> Result<Unit, AllocError>
         requires paired { IsPaired F.ops self.now next.now }
         requires index { index < length self.now.pairs }
-        ensures { IfOk result (IsUnitOf (slice_index_or self.now.pairs index no_match)) }
+        ensures unit { IfOk result (IsUnitOf (pair_at self.now.pairs index)) }
+        ensures triangular { IfOk result (IsTriangular F.ops self.now next.now index) }
     {
         let _few = self.len();
         let _above = next.len();

@@ -1,15 +1,31 @@
 use Rattle.std.proofs.Common.{◌≡◌, ◌+◌, ◌<◌, ℕ, suc, List, length, get_or, sym, ap, subst, ◌∙◌, arith}
 use Rattle.std.proofs.lemmas.List.{get_or_default}
 use Rattle.critical_complex.specs.Stages.{Stage, empty_stage, IsPaired}
+use Rattle.critical_complex.specs.Reaches.{AreDegrees}
 use Rattle.critical_complex.specs.Splits.{stage_at}
+use Rattle.critical_complex.proofs.Matching.{matrices_more}
 use Rattle.critical_complex.proofs.reduced.list_matrices.Goals as goal
+
+stage_is : (stages : List Stage) (i : ℕ) (s : Stage) → length stages ≡ 5 → i < 4 → s ≡ get_or stages i s → s ≡ stage_at stages i
+stage_is stages i s l lt e = e ∙ get_or_default stages i s empty_stage (omega arith)
+
+next_is : (stages : List Stage) (i : ℕ) (s : Stage) → length stages ≡ 5 → i < 4 → s ≡ get_or stages (i + 1) s → s ≡ stage_at stages (suc i)
+next_is stages i s l lt e = e ∙ (get_or_default stages (i + 1) s empty_stage (omega arith) ∙ ap (stage_at stages) (let z : i + 1 ≡ suc i = omega arith in z))
 
 pub coboundary_matrix-requires : goal.coboundary_matrix-requires
 coboundary_matrix-requires g c =
-    let i : ℕ = c.loop-index.index in
-    let l : length c.args.stages.now ≡ 5 = c.requires.long in
-    let a : c.index-stages-index.result ≡ stage_at c.args.stages.now i = c.index-stages-index.is ∙ get_or_default c.args.stages.now i c.index-stages-index.result empty_stage (omega arith) in
-    let b : c.index-stages-index-in-loop-index.result ≡ stage_at c.args.stages.now (suc i) =
-    c.index-stages-index-in-loop-index.is ∙ (get_or_default c.args.stages.now (i + 1) c.index-stages-index-in-loop-index.result empty_stage (omega arith) ∙ ap (stage_at c.args.stages.now) (let e : i + 1 ≡ suc i = omega arith in e)) in
-    subst (λ (s : Stage). IsPaired g.F.Field.ops s c.index-stages-index-in-loop-index.result) (sym a)
-    (subst (IsPaired g.F.Field.ops (stage_at c.args.stages.now i)) (sym b) (c.requires.paired i c.loop-index-test.true))
+    let i : ℕ = c.loop-dim.dim in
+    let a : c.index-stages-dim.result ≡ stage_at c.args.stages.now i = stage_is c.args.stages.now i c.index-stages-dim.result c.requires.splitting.long c.loop-dim-test.true c.index-stages-dim.is in
+    let b : c.index-stages-dim-in-loop-dim.result ≡ stage_at c.args.stages.now (suc i) = next_is c.args.stages.now i c.index-stages-dim-in-loop-dim.result c.requires.splitting.long c.loop-dim-test.true c.index-stages-dim-in-loop-dim.is in
+    record {
+      paired = subst (λ (s : Stage). IsPaired g.F.Field.ops s c.index-stages-dim-in-loop-dim.result) (sym a) (subst (IsPaired g.F.Field.ops (stage_at c.args.stages.now i)) (sym b) (c.requires.splitting.paired i c.loop-dim-test.true));
+      degrees = subst (λ (s : Stage). AreDegrees g.F.Field.ops (g.G.Graded.space c.args.graded.now) (g.G.Signed.negative c.args.graded.now) i s c.index-stages-dim-in-loop-dim.result) (sym a)
+          (subst (AreDegrees g.F.Field.ops (g.G.Graded.space c.args.graded.now) (g.G.Signed.negative c.args.graded.now) i (stage_at c.args.stages.now i)) (sym b) (c.requires.degrees i c.loop-dim-test.true));
+    }
+
+pub loop-dim-preserved : goal.loop-dim-preserved
+loop-dim-preserved g c =
+    matrices_more g.F.Field.ops c.args.stages.now c.loop-dim.dim c.loop-dim.matrices.items c.push.new.self.items c.in_ok-matrix.matrix c.index-stages-dim.result c.index-stages-dim-in-loop-dim.result c.loop-dim.invariant
+    (stage_is c.args.stages.now c.loop-dim.dim c.index-stages-dim.result c.requires.splitting.long c.loop-dim-test.true c.index-stages-dim.is)
+    (next_is c.args.stages.now c.loop-dim.dim c.index-stages-dim-in-loop-dim.result c.requires.splitting.long c.loop-dim-test.true c.index-stages-dim-in-loop-dim.is)
+    c.in_ok-matrix.ensures.cols c.in_ok-matrix.ensures.rows c.in_ok-push.ensures.items

@@ -1,7 +1,9 @@
-use Rattle.std.proofs.Common.{◌≡◌, ◌+◌, ◌<◌, ◌≤◌, ℕ, List, length, get_or, ap, ◌∙◌, arith}
+use Rattle.std.proofs.Common.{◌≡◌, ◌+◌, ◌<◌, ◌≤◌, ℕ, List, [], ◌∷◌, ◌++◌, length, get_or, ap, ◌∙◌, arith}
 use Rattle.critical_laws.specs.declared.matching.Match.{Match}
 use Rattle.critical_complex.specs.Stages.{Stage}
+use Rattle.critical_complex.specs.Units.{pair_at}
 use Rattle.critical_complex.proofs.Filling.{pair_small}
+use Rattle.critical_complex.proofs.UnitLemmas.{triangular_is}
 use Rattle.critical_complex.proofs.stage.Stage.unit.Goals as goal
 
 pub overflow_add-pair : goal.overflow_add-pair
@@ -12,3 +14,13 @@ overflow_add-pair g c =
     let l : p.lower < length c.args.self.now.kinds = h.0 in
     let b : length c.args.self.now.kinds ≤ 4294967295 = c.len-few.ensures.small.cells in
     omega arith
+
+pub returns-clause-triangular : goal.returns-clause-triangular
+returns-clause-triangular g c =
+    let ps : c.deref-pairs.result.now ≡ c.args.self.now.pairs = c.deref-pairs.ensures.value ∙ ap (λ (s : Stage). s.pairs) c.self.view_is in
+    let p : Match = pair_at c.deref-pairs.result.now c.args.index in
+    triangular_is g.F.Field.ops g.met.F.Field.laws c.args.self.now c.args.next.now c.requires.paired c.args.index (record { left = c.push.new.self; right = c.push-2.new.self }) c.requires.index
+    (record {
+      left = c.in_ok-push.ensures.pushed ∙ (ap (λ (xs : List (ℕ × ℕ)). xs ++ (p.lower + 1, 1) ∷ []) c.new-left.ensures ∙ ap (λ (qs : List Match). ((pair_at qs c.args.index).lower + 1, 1) ∷ []) ps);
+      right = c.in_ok-push-2.ensures.pushed ∙ (ap (λ (xs : List (ℕ × ℕ)). xs ++ (p.upper + 1, 1) ∷ []) c.new-right.ensures ∙ ap (λ (qs : List Match). ((pair_at qs c.args.index).upper + 1, 1) ∷ []) ps);
+    })

@@ -1,0 +1,93 @@
+-- The cells that the extension from one critical cell meets.
+use Rattle.std.specs.Prelude.{◌≡◌, ◌⊎◌, ℕ, ◌+◌, ◌<◌, ◌≤◌, List, [], ◌∷◌, Bool, true, All, Contains, map, length, set, slice_index}
+use Rattle.std.specs.List.{AllByRecursion}
+use Rattle.std.specs.List.Sorted.{IsStrictlyIncreasing}
+use Rattle.small_field.specs.Field.{Ops}
+use Rattle.linear_algebra.specs.Vectors.{dot, column, entry}
+use Rattle.face_poset.specs.Words.{holds}
+use Rattle.face_poset.specs.Poset.{count, cofaces_of}
+use Rattle.critical_laws.specs.declared.kind.Kind.{Kind}
+use Rattle.critical_laws.specs.declared.kind.Kind.TheVariants.{Critical, Lower, Upper}
+use Rattle.critical_laws.specs.declared.matching.Match.{Match}
+use Rattle.critical_laws.specs.Kinds.{criticals}
+use Rattle.critical_laws.specs.Pairs.{HasUpper, kind_at}
+use Rattle.critical_complex.specs.Stages.{Stage, place_of}
+use Rattle.critical_complex.specs.Signed.{signed_rows}
+use Rattle.critical_complex.specs.Units.{pair_at}
+
+-- ---- indexes
+
+-- the index at a place is that of a pair with its upper there
+pub record HasPair (ps : List Match) (xs : List ℕ) (j : ℕ) : Type 0 where
+  pub within : slice_index xs j < length ps
+  pub upper : (pair_at ps (slice_index xs j)).upper ≡ j
+
+-- at each upper the index of its pair, and at each critical cell its index among the critical ones
+pub record AreIndexes (ps : List Match) (us : List Kind) (xs : List ℕ) : Type 0 where
+  pub long : length xs ≡ length us
+  pub upper : (j : ℕ) → j < length us → kind_at us j ≡ Upper → HasPair ps xs j
+  pub critical : (j : ℕ) → j < length us → kind_at us j ≡ Critical → (slice_index xs j < criticals us) × (place_of us (slice_index xs j) ≡ j)
+
+-- ---- the search; cells above are numbered from 1
+
+-- two degrees of a signed set
+pub record AreDegrees (F : Ops) (space : List (List (List ℕ))) (negative : ℕ → ℕ → ℕ → Bool) (dim : ℕ) (s next : Stage) : Type 0 where
+  pub rows : s.rows ≡ signed_rows F space negative dim
+  pub cells : length s.kinds ≡ count space dim
+  pub above : length next.kinds ≡ count space (dim + 1)
+
+-- what was found was kept, and what is more stands after it
+pub record HasMore (old new : List ℕ) : Type 0 where
+  pub long : length old ≤ length new
+  pub begins : (k : ℕ) → k < length old → slice_index new k ≡ slice_index old k
+  pub kept : (n : ℕ) → holds old n ≡ true → holds new n ≡ true
+
+abbrev pub HoldsAll : (numbers found : List ℕ) → Type 0
+HoldsAll numbers found = (n : ℕ) → holds numbers n ≡ true → holds found n ≡ true
+
+-- the cofaces of the cell at a place were found
+abbrev pub HasCofaces : List (List (List ℕ)) → (dim place : ℕ) → (found : List ℕ) → Type 0
+HasCofaces space dim place found = HoldsAll (cofaces_of space dim (place + 1)) found
+
+-- the cofaces of the cell were found, and those of the lower of each upper that was found
+pub record IsClosed (space : List (List (List ℕ))) (dim : ℕ) (s next : Stage) (xs : List ℕ) (place : ℕ) (found : List ℕ) : Type 0 where
+  pub begun : HasCofaces space dim place found
+  pub onward : (j : ℕ) → j < length next.kinds → holds found (j + 1) ≡ true → kind_at next.kinds j ≡ Upper → HasCofaces space dim ((pair_at s.pairs (slice_index xs j)).lower) found
+
+-- ---- the pairs that were found
+
+-- the index of a pair, where the cell is an upper
+abbrev pub upper_index : Kind → ℕ → List ℕ
+upper_index Critical k = []
+upper_index Lower k = []
+upper_index Upper k = k ∷ []
+
+-- the indexes at the uppers that were found, each once, increasing
+pub record IsOrder (us : List Kind) (xs found order : List ℕ) : Type 0 where
+  pub rises : IsStrictlyIncreasing order
+  pub all : (j : ℕ) → j < length us → holds found (j + 1) ≡ true → kind_at us j ≡ Upper → Contains order (slice_index xs j)
+  pub only : (k : ℕ) → Contains order k → (j : ℕ) × (j < length us) × (holds found (j + 1) ≡ true) × (kind_at us j ≡ Upper) × (slice_index xs j ≡ k)
+
+-- neither the cell at a place nor the lower of one of the pairs is a facet of the cell j above
+abbrev pub Misses : List (List ℕ) → (place : ℕ) → List Match → (j : ℕ) → Type 0
+Misses rows place qs j = (entry rows place j ≡ 0) × AllByRecursion (λ q. entry rows q.lower j ≡ 0) qs
+
+-- these pairs are all, and these cells are all, that the extension from the critical cell at a place meets
+pub record IsReach (s next : Stage) (place : ℕ) (found : List ℕ) (qs : List Match) : Type 0 where
+  pub order : List ℕ
+  pub rises : IsStrictlyIncreasing order
+  pub within : All (λ k. k < length s.pairs) order
+  pub is : qs ≡ map (pair_at s.pairs) order
+  pub upper : (j : ℕ) → j < length next.kinds → kind_at next.kinds j ≡ Upper → HasUpper qs j ⊎ Misses s.rows place qs j
+  pub critical : (j : ℕ) → j < length next.kinds → kind_at next.kinds j ≡ Critical → (holds found (j + 1) ≡ true) ⊎ Misses s.rows place qs j
+
+-- ---- one row
+
+-- zero at the lowers of these pairs
+abbrev pub cleared : List Match → List ℕ → List ℕ
+cleared [] x = x
+cleared (p ∷ ps) x = cleared ps (set x p.lower 0)
+
+-- the coboundary of x is zero at the critical cells that were not found
+abbrev pub IsFound : Ops → (s next : Stage) → (x found : List ℕ) → Type 0
+IsFound F s next x found = (j : ℕ) → j < length next.kinds → kind_at next.kinds j ≡ Critical → (holds found (j + 1) ≡ true) ⊎ (dot F x (column j s.rows) ≡ 0)
