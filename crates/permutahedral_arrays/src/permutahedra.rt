@@ -41,7 +41,7 @@ pub fn permutahedral(alloc: Global, nest: &Nest) -> Result<Space, ArrayFault>
     space_with(alloc, sizes.len() as u8, slab, row, &marks)
 }
 
-/// The space of the cells with a marked point. A point of a cell is at most a slab, a row and a step
+/// The space of the cells with a marked point. A point of a cell is at most a slab, a row and one
 /// past the last mark.
 fn space_with(
     alloc: Global,
