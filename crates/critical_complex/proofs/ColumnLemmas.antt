@@ -1,10 +1,10 @@
 -- Columns by cells, and the rows that they are of.
 use Rattle.std.proofs.Common.{◌≡◌, ◌≢◌, ℕ, zero, suc, ◌+◌, ◌-◌, ◌≤◌, ◌<◌, List, [], ◌∷◌, Bool, true, false, cond, ◌||◌, eqb, length, map, drop, replicate, get_or, set, refl, ap, sym, ◌∙◌, arith, subst}
 use Rattle.std.specs.List.{range_with_len}
-use Rattle.std.proofs.lemmas.Bool.{eq-eqb, ne_eqb}
+use Rattle.std.proofs.lemmas.Bool.{eq-eqb}
 use Rattle.std.proofs.lemmas.List.FromFn.{length-map-range_with_len, get_or-map-range_with_len}
 use Rattle.small_field.specs.Field.{Ops, IsField}
-use Rattle.linear_algebra.specs.Vectors.{dot, column, entry, row_at, bump, AreElements, IsVector, IsMatrix}
+use Rattle.linear_algebra.specs.Vectors.{dot, column, entry, bump, IsVector, IsMatrix}
 use Rattle.linear_algebra.proofs.Dot.{zero_below, dot_zeros, dot_comm, add_zero}
 use Rattle.linear_algebra.proofs.Bump.{dot_bumped}
 use Rattle.face_poset.specs.Words.{upto, holds}

@@ -1,9 +1,9 @@
 -- Boundaries that are changed with their chains, and flows.
-use Rattle.std.proofs.Common.{◌≡◌, ◌≢◌, ℕ, zero, suc, ◌+◌, ◌-◌, ◌≤◌, ◌<◌, List, [], ◌∷◌, length, length-set, map, take, drop, replicate, get_or, set, Result, Ok, Err, IfOk, refl, ap, sym, ◌∙◌, arith, subst}
+use Rattle.std.proofs.Common.{◌≡◌, ℕ, zero, suc, ◌+◌, ◌-◌, ◌≤◌, ◌<◌, List, [], ◌∷◌, length, length-set, map, take, drop, replicate, get_or, set, Result, Ok, Err, IfOk, refl, ap, sym, ◌∙◌, arith, subst}
 use Rattle.std.proofs.lemmas.List.{length-take-le}
 use Rattle.std.proofs.lemmas.List.FromFn.{length-map-range_with_len}
 use Rattle.small_field.specs.Field.{Ops, IsField}
-use Rattle.linear_algebra.specs.Vectors.{boundary, bump, column, dot, entry, plus_scaled, row_at, AreElements, IsVector, IsMatrix}
+use Rattle.linear_algebra.specs.Vectors.{boundary, bump, column, dot, entry, plus_scaled, row_at, AreElements, IsMatrix}
 use Rattle.linear_algebra.proofs.Bump.{dot_bumped}
 use Rattle.linear_algebra.proofs.Dot.{dot_comm, dot_zeros}
 use Rattle.linear_algebra.proofs.Span.{list_below}

@@ -1,5 +1,5 @@
 -- Pairs one by one.
-use Rattle.std.proofs.Common.{◌≡◌, ◌≢◌, ℕ, zero, suc, ◌<◌, List, [], ◌∷◌, length, get_or, arith}
+use Rattle.std.proofs.Common.{◌≢◌, ℕ, zero, suc, ◌<◌, List, [], ◌∷◌, length, get_or, arith}
 use Rattle.linear_algebra.specs.Vectors.{entry}
 use Rattle.critical_laws.specs.declared.matching.Match.{Match}
 use Rattle.critical_laws.specs.Pairs.{Triangular}

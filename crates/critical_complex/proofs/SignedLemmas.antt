@@ -1,12 +1,11 @@
 -- The coboundary of a signed set by its columns.
-use Rattle.std.proofs.Common.{◌≡◌, ◌≢◌, ℕ, zero, suc, ◌+◌, ◌-◌, ◌≤◌, ◌<◌, List, [], ◌∷◌, ◌++◌, Bool, true, false, cond, ◌||◌, eqb, length, map, take, get_or, refl, ap, sym, ◌∙◌, arith, subst, All}
-use Rattle.std.specs.List.{range_with_len}
+use Rattle.std.proofs.Common.{◌≡◌, ℕ, suc, ◌+◌, ◌-◌, ◌≤◌, ◌<◌, List, [], ◌∷◌, ◌++◌, Bool, true, false, cond, ◌||◌, eqb, length, map, take, get_or, refl, ap, sym, ◌∙◌, arith, subst, All}
 use Rattle.std.proofs.lemmas.Bool.{eqb-true}
 use Rattle.std.proofs.lemmas.List.{take_more, length-take-le}
 use Rattle.std.proofs.lemmas.List.FromFn.{map-range_with_len_more, get_or-range_with_len, length-range_with_len}
 use Rattle.small_field.specs.Field.{Ops, IsField}
 use Rattle.face_poset.specs.Words.{upto, holds}
-use Rattle.face_poset.specs.Poset.{count, facets_of, layer, IsSpace, IsCell}
+use Rattle.face_poset.specs.Poset.{count, facets_of, IsSpace, IsCell}
 use Rattle.face_poset.proofs.Members.{increasing_head, increasing_tail, holds-none}
 use Rattle.std.specs.List.Sorted.{IsStrictlyIncreasing}
 use Rattle.critical_laws.specs.declared.kind.Kind.{Kind}

@@ -1,5 +1,5 @@
 -- The units are triangular, and each upper has exactly one.
-use Rattle.std.proofs.Common.{◌≡◌, ◌≢◌, ◌⊎◌, inl, inr, ℕ, zero, suc, ◌+◌, ◌-◌, ◌<◌, ◌≤◌, List, [], ◌∷◌, length, length-set, replicate, get_or, set, get_or-set_same, get_or-set_other, refl, ap, sym, ◌∙◌, arith, subst}
+use Rattle.std.proofs.Common.{◌≡◌, ◌≢◌, ◌⊎◌, inl, inr, ℕ, zero, suc, ◌+◌, ◌-◌, ◌<◌, ◌≤◌, List, [], ◌∷◌, length, length-set, replicate, set, get_or-set_same, get_or-set_other, refl, ap, sym, ◌∙◌, arith, subst}
 use Rattle.std.proofs.lemmas.Bool.{cases_eq}
 use Rattle.std.specs.Prelude.{⊤}
 use Rattle.std.specs.List.{AllByRecursion}
@@ -12,11 +12,11 @@ use Rattle.linear_algebra.proofs.Span.{all_at}
 use Rattle.critical_laws.specs.declared.kind.Kind.{Kind}
 use Rattle.critical_laws.specs.declared.kind.Kind.TheVariants.{Critical, Lower, Upper}
 use Rattle.critical_laws.specs.declared.matching.Match.{Match}
-use Rattle.critical_laws.specs.Pairs.{Triangular, HasUpper, IsMatching, kind_at}
+use Rattle.critical_laws.specs.Pairs.{Triangular, HasUpper, kind_at}
 use Rattle.critical_complex.specs.declared.unit.Unit.{Unit}
 use Rattle.critical_complex.specs.Stages.{Stage, IsPaired}
 use Rattle.critical_complex.specs.Splits.{stage_at, IsSplitting}
-use Rattle.critical_complex.specs.Units.{no_match, pair_at, IsUnitOf, filled, value_on, IsTriangular, uppers, IsIndexOf, MatchUppers}
+use Rattle.critical_complex.specs.Units.{no_match, pair_at, IsUnitOf, filled, value_on, IsTriangular, uppers, MatchUppers}
 use Rattle.critical_complex.proofs.Pairwise.{triangular_at}
 
 -- ---- triangular

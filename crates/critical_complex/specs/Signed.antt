@@ -1,5 +1,5 @@
 -- The coboundary of a signed set over a field, and what the pairs of a field say of its cells.
-use Rattle.std.specs.Prelude.{◌≡◌, ℕ, ◌+◌, ◌-◌, ◌<◌, ◌≤◌, ◌==◌, List, [], ◌∷◌, Bool, false, cond, filter, map, length, slice_index_or, Contains}
+use Rattle.std.specs.Prelude.{◌≡◌, ℕ, ◌+◌, ◌-◌, ◌<◌, ◌==◌, List, Bool, false, cond, filter, map, length, slice_index_or, Contains}
 use Rattle.small_field.specs.Field.{Ops}
 use Rattle.face_poset.specs.declared.cells.Pair.{Pair}
 use Rattle.face_poset.specs.Words.{upto, holds}

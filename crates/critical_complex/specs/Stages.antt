@@ -1,6 +1,6 @@
 -- What is kept of one degree: the rows of its coboundary, of so many numbers, the kinds of its cells, and the pairs of its lowers
 -- with uppers of the next degree, in the order of the field.
-use Rattle.std.specs.Prelude.{◌≡◌, ℕ, zero, suc, ◌+◌, ◌≤◌, List, [], ◌∷◌, length, slice_index_or}
+use Rattle.std.specs.Prelude.{◌≡◌, ℕ, zero, suc, ◌+◌, ◌≤◌, List, [], ◌∷◌, length}
 use Rattle.small_field.specs.Field.{Ops}
 use Rattle.critical_laws.specs.declared.kind.Kind.{Kind}
 use Rattle.critical_laws.specs.declared.kind.Kind.TheVariants.{Critical, Lower, Upper}

@@ -102,19 +102,13 @@ fn faults_of_permutahedral_arrays_are_named(rt: HostRuntime) -> Result<(), Fail>
 fn knots_and_links_have_their_betti_numbers(rt: HostRuntime) -> Result<(), Fail> {
     let alloc = rt.alloc();
     for (text, out) in [
-        (
-            b"[[1,2],[1,2]]".as_slice(),
-            b"betti 1 1 1 0\n".as_slice(),
-        ),
+        (b"[[1,2],[1,2]]".as_slice(), b"betti 1 1 1 0\n".as_slice()),
         (b"[[1,2],[1,2],[3,4],[3,4]]", b"betti 1 2 2 0\n"),
         (
             b"[ [ 2, 5 ], [ 1, 3 ], [ 2, 4 ], [ 3, 5 ], [ 1, 4 ] ];",
             b"betti 1 1 1 0\n",
         ),
-        (
-            b"[[3,5],[4,6],[2,5],[1,3],[2,6],[1,4]]",
-            b"betti 1 1 1 0\n",
-        ),
+        (b"[[3,5],[4,6],[2,5],[1,3],[2,6],[1,4]]", b"betti 1 1 1 0\n"),
     ] {
         let told = run_text(alloc, &["betti", "--kind", "arcs"], text)?;
         assert_eq!(rt; told.status, 0);

@@ -1,5 +1,5 @@
 -- The values that the table gives a command are in their ranges.
-use Rattle.std.proofs.Common.{◌≡◌, ℕ, Bool, true, false, List, [], ◌∷◌, None, Some, refl, sym, ◌∙◌, subst, map, string_bytes}
+use Rattle.std.proofs.Common.{◌≡◌, ℕ, Bool, true, false, List, [], ◌∷◌, None, Some, refl, subst}
 use Rattle.std.specs.Prelude.{if◌then◌else◌, option_map, nat_le, ◌&&◌}
 use Rattle.std.specs.declared.option.Option.{Option}
 use Rattle.clap.specs.declared.error.kind.ErrorKind.{ErrorKind}

@@ -10,9 +10,7 @@ ghost use Rattle.hap_words.specs.Table as table;
 use crate::command::{Command, Input, Kind};
 use crate::fault::WordsFault;
 use crate::line::match_words;
-use crate::table::{
-    Name, Verb, is_taken, is_verb_built, kind_of_word, option_word, verb_of_word,
-};
+use crate::table::{Name, Verb, is_taken, is_verb_built, kind_of_word, option_word, verb_of_word};
 use crate::texts::read_number_between;
 use clap::ArgMatches;
 use clap::error::ErrorKind;

@@ -1,4 +1,4 @@
-use Rattle.std.proofs.Common.{◌≡◌, ◌-◌, ◌≤◌, ◌<◌, ℕ, List, length, length-set, get_or, set, ap, sym, ◌∙◌, subst, arith}
+use Rattle.std.proofs.Common.{◌≡◌, ◌-◌, ◌≤◌, ◌<◌, ℕ, List, length, length-set, get_or, ap, sym, ◌∙◌, subst, arith}
 use Rattle.small_field.specs.Field.{Ops}
 use Rattle.critical_complex.proofs.ColumnLemmas.{column_long, column_entry_is}
 use Rattle.critical_complex.proofs.Flows.{share_is, add_step}

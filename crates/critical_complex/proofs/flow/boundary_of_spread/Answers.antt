@@ -1,4 +1,4 @@
-use Rattle.std.proofs.Common.{◌≡◌, ◌<◌, ℕ, List, length, refl, sym, ◌∙◌, subst}
+use Rattle.std.proofs.Common.{◌<◌, ℕ, length, refl, sym, ◌∙◌, subst}
 use Rattle.critical_complex.proofs.Flows.{spread_boundary_none, spread_boundary_more}
 use Rattle.critical_complex.proofs.flow.boundary_of_spread.Goals as goal
 

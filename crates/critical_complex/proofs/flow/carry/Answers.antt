@@ -1,4 +1,4 @@
-use Rattle.std.proofs.Common.{◌-◌, ◌<◌, ◌≤◌, length, arith}
+use Rattle.std.proofs.Common.{◌-◌, arith}
 use Rattle.critical_complex.proofs.Pairwise.{triangular_at}
 use Rattle.critical_complex.proofs.flow.carry.Goals as goal
 

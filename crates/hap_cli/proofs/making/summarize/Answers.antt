@@ -1,4 +1,4 @@
-use Rattle.std.proofs.Common.{◌≤◌, ◌+◌, None, Some, Ok, ap, refl, subst, sym}
+use Rattle.std.proofs.Common.{◌≤◌, ◌+◌, None, Some, ap, refl, subst, sym}
 use Rattle.small_field.specs.Prime.{mod_ops}
 use Rattle.array_readers.specs.Torus.{torus_of}
 use Rattle.plain_betti.specs.Numbers.{AreBetti, coboundary_entries}

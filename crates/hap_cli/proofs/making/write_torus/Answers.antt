@@ -1,4 +1,4 @@
-use Rattle.std.proofs.Common.{◌++◌, codes, ap, refl}
+use Rattle.std.proofs.Common.{◌++◌, codes, ap}
 use Rattle.std.specs.Prelude.{decimal}
 use Rattle.face_poset.proofs.Writing.{writes_last, writes_stop}
 use Rattle.hap_cli.specs.Answers.{cells_text, torus_text}

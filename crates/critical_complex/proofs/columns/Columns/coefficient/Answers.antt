@@ -1,5 +1,4 @@
-use Rattle.std.proofs.Common.{◌≡◌, ◌<◌, ◌^◌, ℕ, length, arith}
-use Rattle.critical_complex.proofs.Viewed.{place_in, lengths_of, small_of, coefficient_is, long_are}
+use Rattle.critical_complex.proofs.Viewed.{place_in, lengths_of, small_of, coefficient_is}
 use Rattle.critical_complex.proofs.columns.Columns.coefficient.Goals as goal
 
 pub get-values-requires : goal.get-values-requires

@@ -1,6 +1,6 @@
-use Rattle.std.proofs.Common.{◌≡◌, ◌+◌, ◌<◌, ◌≤◌, List, length, ap, ◌∙◌, arith}
+use Rattle.std.proofs.Common.{◌≡◌, ◌+◌, ◌≤◌, List, length, ap, ◌∙◌, arith}
 use Rattle.std.proofs.lemmas.List.{get_or_default}
-use Rattle.critical_complex.specs.Stages.{Stage, empty_stage, IsPaired}
+use Rattle.critical_complex.specs.Stages.{Stage, empty_stage}
 use Rattle.critical_complex.specs.Splits.{stage_at}
 use Rattle.critical_complex.proofs.UnitLemmas.{match_uppers, paired_at, uppers_are}
 use Rattle.critical_complex.proofs.reduced.Reduced.units.Goals as goal

@@ -1,4 +1,4 @@
-use Rattle.std.proofs.Common.{◌≡◌, ◌+◌, ◌-◌, ◌<◌, ◌≤◌, ℕ, List, length, get_or, ap, sym, ◌∙◌, subst, arith}
+use Rattle.std.proofs.Common.{◌≡◌, ◌+◌, ◌<◌, ◌≤◌, length, get_or, ap, ◌∙◌, arith}
 use Rattle.critical_complex.specs.Stages.{Stage, critical_from, place_of}
 use Rattle.critical_complex.proofs.Placed.{index_in, number_is, number_low, place_below}
 use Rattle.critical_complex.proofs.stage.Stage.critical_place.Goals as goal

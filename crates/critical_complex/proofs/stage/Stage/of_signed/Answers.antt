@@ -1,4 +1,4 @@
-use Rattle.std.proofs.Common.{◌≡◌, ◌≤◌, ℕ, List, length, ap, sym, ◌∙◌, arith}
+use Rattle.std.proofs.Common.{◌≡◌, ℕ, List, length, ap, sym, ◌∙◌, arith}
 use Rattle.critical_complex.specs.Stages.{critical_from}
 use Rattle.critical_complex.proofs.Matching.{rows_long}
 use Rattle.critical_complex.proofs.stage.Stage.of_signed.Goals as goal

@@ -1,4 +1,4 @@
-use Rattle.std.proofs.Common.{◌≡◌, ◌+◌, ◌<◌, ◌≤◌, ℕ, List, length, get_or, length-set, ap, sym, ◌∙◌, subst, arith}
+use Rattle.std.proofs.Common.{◌≡◌, ◌<◌, ℕ, List, length, get_or, length-set, ap, sym, ◌∙◌, subst, arith}
 use Rattle.critical_laws.specs.Kinds.{criticals, part}
 use Rattle.critical_laws.proofs.Parts.{part-long}
 use Rattle.critical_complex.specs.Stages.{Stage, critical_from}

@@ -1,4 +1,4 @@
-use Rattle.std.proofs.Common.{◌≡◌, ◌+◌, ◌<◌, ◌≤◌, ℕ, List, length, length-set, get_or, refl, ap, sym, ◌∙◌, subst, arith}
+use Rattle.std.proofs.Common.{◌≡◌, ◌<◌, ℕ, List, length, length-set, refl, ap, sym, ◌∙◌, subst, arith}
 use Rattle.critical_laws.specs.Kinds.{criticals, part}
 use Rattle.critical_laws.specs.Solutions.{without}
 use Rattle.critical_complex.proofs.Placed.{same_list}
