@@ -4,9 +4,9 @@ use Rattle.std.specs.List.{range_with_len}
 use Rattle.std.proofs.lemmas.Bool.{eq-eqb}
 use Rattle.std.proofs.lemmas.List.FromFn.{length-map-range_with_len, get_or-map-range_with_len}
 use Rattle.small_field.specs.Field.{Ops, IsField}
-use Rattle.linear_algebra.specs.Vectors.{dot, column, entry, bump, IsVector, IsMatrix}
-use Rattle.linear_algebra.proofs.Dot.{zero_below, dot_zeros, dot_comm, add_zero}
-use Rattle.linear_algebra.proofs.Bump.{dot_bumped}
+use Rattle.linear_laws.specs.Vectors.{dot, column, entry, bump, IsVector, IsMatrix}
+use Rattle.linear_laws.proofs.Dot.{zero_below, dot_zeros, dot_comm, add_zero}
+use Rattle.linear_laws.proofs.Bump.{dot_bumped}
 use Rattle.face_poset.specs.Words.{upto, holds}
 use Rattle.face_poset.proofs.Members.{set-map-upto, differ}
 use Rattle.critical_complex.specs.Columns.{coefficient, row_from, rows_from, sum_on, IsColumn, AreColumns}

@@ -2,11 +2,11 @@
 use Rattle.std.proofs.Common.{◌≡◌, ◌≢◌, inl, inr, ℕ, zero, suc, ◌+◌, ◌<◌, List, [], ◌∷◌, ◌++◌, length, take, get_or, set, get_or-set_same, get_or-set_other, refl, ap, sym, ◌∙◌, arith, subst}
 use Rattle.std.proofs.lemmas.Bool.{cases_eq}
 use Rattle.small_field.specs.Field.{Ops}
-use Rattle.critical_laws.specs.declared.kind.Kind.{Kind}
-use Rattle.critical_laws.specs.declared.kind.Kind.TheVariants.{Critical, Lower, Upper}
-use Rattle.critical_laws.specs.declared.matching.Match.{Match}
-use Rattle.critical_laws.specs.Kinds.{criticals}
-use Rattle.critical_laws.specs.Pairs.{HasUpper, kind_at}
+use Rattle.split_laws.specs.declared.kind.Kind.{Kind}
+use Rattle.split_laws.specs.declared.kind.Kind.TheVariants.{Critical, Lower, Upper}
+use Rattle.split_laws.specs.declared.matching.Match.{Match}
+use Rattle.split_laws.specs.Kinds.{criticals}
+use Rattle.split_laws.specs.Pairs.{HasUpper, kind_at}
 use Rattle.critical_complex.specs.Stages.{Stage, IsPaired, place_of}
 use Rattle.critical_complex.specs.Reaches.{HasPair, AreIndexes}
 use Rattle.critical_complex.specs.Units.{pair_at}

@@ -4,8 +4,8 @@ use Rattle.std.proofs.lemmas.Bool.{cases_eq}
 use Rattle.std.proofs.lemmas.List.{length-append, get_or_append_left}
 use Rattle.std.proofs.Math.Seq.{get_or-append_seam}
 use Rattle.face_poset.specs.declared.cells.Pair.{Pair}
-use Rattle.critical_laws.specs.declared.kind.Kind.{Kind}
-use Rattle.critical_laws.specs.declared.kind.Kind.TheVariants.{Critical}
+use Rattle.split_laws.specs.declared.kind.Kind.{Kind}
+use Rattle.split_laws.specs.declared.kind.Kind.TheVariants.{Critical}
 use Rattle.critical_complex.specs.Signed.{IsKind, AreKinds}
 
 pub kinds_more : (pairs : List Pair) (dim i : ℕ) (ks now : List Kind) (k : Kind) → AreKinds pairs dim i ks → IsKind pairs dim (i + 1) k → now ≡ ks ++ k ∷ [] → AreKinds pairs dim (i + 1) now

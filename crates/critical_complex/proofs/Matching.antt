@@ -5,7 +5,7 @@ use Rattle.std.proofs.lemmas.Bool.{eqb-true, eq-eqb, and_parts, not_from_false, 
 use Rattle.std.proofs.lemmas.List.FromFn.{length-map-range_with_len, get_or-map-range_with_len}
 use Rattle.small_field.specs.Field.{Ops, IsField}
 use Rattle.small_field.proofs.Laws.{neg_neg, neg_zero, zero_below}
-use Rattle.linear_algebra.specs.Vectors.{entry, IsVector, IsMatrix}
+use Rattle.linear_laws.specs.Vectors.{entry, IsVector, IsMatrix}
 use Rattle.face_poset.specs.declared.cells.Pair.{Pair}
 use Rattle.face_poset.specs.Words.{upto, holds}
 use Rattle.face_poset.specs.Poset.{count, facets_of}
@@ -14,15 +14,15 @@ use Rattle.vector_field.specs.Pairs.{pair, is_incident, IsValid}
 use Rattle.vector_field.proofs.Members.{In, here, there, In-cases, In-filter, any-none, Contains-In}
 use Rattle.vector_field.proofs.Lined.{Lined, lined-two}
 use Rattle.vector_field.proofs.Valid.{Goes, lined-from, unused-In}
-use Rattle.critical_laws.specs.declared.kind.Kind.{Kind}
-use Rattle.critical_laws.specs.declared.kind.Kind.TheVariants.{Critical, Lower, Upper}
-use Rattle.critical_laws.specs.declared.matching.Match.{Match}
-use Rattle.critical_laws.specs.Kinds.{criticals, HasNoUpper}
-use Rattle.critical_laws.specs.Pairs.{Triangular, HasLower, HasUpper, IsMatching, kind_at}
+use Rattle.split_laws.specs.declared.kind.Kind.{Kind}
+use Rattle.split_laws.specs.declared.kind.Kind.TheVariants.{Critical, Lower, Upper}
+use Rattle.split_laws.specs.declared.matching.Match.{Match}
+use Rattle.split_laws.specs.Kinds.{criticals, HasNoUpper}
+use Rattle.split_laws.specs.Pairs.{Triangular, HasLower, HasUpper, IsMatching, kind_at}
 use Rattle.critical_complex.specs.Stages.{Stage, IsPaired, empty_stage}
 use Rattle.critical_complex.specs.Splits.{IsReductionOf, IsSplitting, IsMatrixOf, AreMatrices, no_rows, stage_at}
 use Rattle.field_matrix.specs.Rows.{Rows}
-use Rattle.critical_laws.specs.Solutions.{IsReducedBy}
+use Rattle.split_laws.specs.Solutions.{IsReducedBy}
 use Rattle.std.proofs.lemmas.List.{length-append, get_or_append_left}
 use Rattle.std.proofs.Math.Seq.{get_or-append_seam}
 use Rattle.critical_complex.specs.Reaches.{AreDegrees}

@@ -3,15 +3,15 @@ use Rattle.std.proofs.Common.{◌≡◌, ◌≢◌, ◌⊎◌, inl, inr, ℕ, �
 use Rattle.std.proofs.lemmas.Bool.{cases_eq, cases_Bool, false≢true, eq-eqb}
 use Rattle.std.proofs.lemmas.List.{take_all}
 use Rattle.small_field.specs.Field.{Ops, IsField}
-use Rattle.linear_algebra.specs.Vectors.{dot, column, combination, row_at, IsMatrix, IsVector}
-use Rattle.linear_algebra.proofs.Span.{all_at}
+use Rattle.linear_laws.specs.Vectors.{dot, column, combination, row_at, IsMatrix, IsVector}
+use Rattle.linear_laws.proofs.Span.{all_at}
 use Rattle.face_poset.specs.Words.{holds}
 use Rattle.face_poset.proofs.Members.{holds_more, differ}
-use Rattle.critical_laws.specs.declared.kind.Kind.{Kind}
-use Rattle.critical_laws.specs.declared.kind.Kind.TheVariants.{Critical, Lower, Upper}
-use Rattle.critical_laws.specs.Kinds.{criticals, part}
-use Rattle.critical_laws.specs.Pairs.{kind_at}
-use Rattle.critical_laws.specs.Solutions.{IsReducedBy}
+use Rattle.split_laws.specs.declared.kind.Kind.{Kind}
+use Rattle.split_laws.specs.declared.kind.Kind.TheVariants.{Critical, Lower, Upper}
+use Rattle.split_laws.specs.Kinds.{criticals, part}
+use Rattle.split_laws.specs.Pairs.{kind_at}
+use Rattle.split_laws.specs.Solutions.{IsReducedBy}
 use Rattle.critical_complex.specs.Stages.{Stage, IsPaired, place_of}
 use Rattle.critical_complex.specs.Reaches.{AreIndexes, IsFound}
 use Rattle.critical_complex.proofs.Placed.{place_below, same_list}

@@ -6,17 +6,17 @@ use Rattle.std.proofs.lemmas.List.FromFn.{get_or-map-range_with_len}
 use Rattle.std.specs.List.{AllByRecursion}
 use Rattle.std.specs.List.Sorted.{IsStrictlyIncreasing}
 use Rattle.small_field.specs.Field.{Ops}
-use Rattle.linear_algebra.specs.Vectors.{entry}
+use Rattle.linear_laws.specs.Vectors.{entry}
 use Rattle.face_poset.specs.Words.{upto, holds}
 use Rattle.face_poset.specs.Poset.{count, facets_of, cofaces_of}
 use Rattle.vector_field.specs.Founds.{with_number}
 use Rattle.vector_field.proofs.Members.{In, here, there, holds-In, In-holds, In-left, In-last, push-In, In-cases, In-Contains, Contains-In, at-In}
 use Rattle.vector_field.proofs.Led.{IsMore, is_more}
 use Rattle.vector_field.proofs.MaximalTest.{In-cofaces}
-use Rattle.critical_laws.specs.declared.kind.Kind.{Kind}
-use Rattle.critical_laws.specs.declared.kind.Kind.TheVariants.{Critical, Lower, Upper}
-use Rattle.critical_laws.specs.declared.matching.Match.{Match}
-use Rattle.critical_laws.specs.Pairs.{HasUpper, kind_at}
+use Rattle.split_laws.specs.declared.kind.Kind.{Kind}
+use Rattle.split_laws.specs.declared.kind.Kind.TheVariants.{Critical, Lower, Upper}
+use Rattle.split_laws.specs.declared.matching.Match.{Match}
+use Rattle.split_laws.specs.Pairs.{HasUpper, kind_at}
 use Rattle.critical_complex.specs.Stages.{Stage, IsPaired}
 use Rattle.critical_complex.specs.Signed.{sign_element, signed_entry, signed_rows}
 use Rattle.critical_complex.specs.Reaches.{upper_index, AreDegrees, AreIndexes, HasCofaces, HasMore, HoldsAll, IsClosed, IsOrder, IsReach, Misses}

@@ -8,8 +8,8 @@ use Rattle.face_poset.specs.Words.{upto, holds}
 use Rattle.face_poset.specs.Poset.{count, facets_of, IsSpace, IsCell}
 use Rattle.face_poset.proofs.Members.{increasing_head, increasing_tail, holds-none}
 use Rattle.std.specs.List.Sorted.{IsStrictlyIncreasing}
-use Rattle.critical_laws.specs.declared.kind.Kind.{Kind}
-use Rattle.critical_laws.specs.declared.kind.Kind.TheVariants.{Critical, Lower, Upper}
+use Rattle.split_laws.specs.declared.kind.Kind.{Kind}
+use Rattle.split_laws.specs.declared.kind.Kind.TheVariants.{Critical, Lower, Upper}
 use Rattle.critical_complex.specs.Stages.{critical_from}
 use Rattle.critical_complex.specs.Columns.{coefficient, row_from, rows_from, IsColumn, AreColumns}
 use Rattle.critical_complex.specs.Signed.{sign_element, signed_entry, signed_rows}

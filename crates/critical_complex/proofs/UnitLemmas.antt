@@ -4,15 +4,15 @@ use Rattle.std.proofs.lemmas.Bool.{cases_eq}
 use Rattle.std.specs.Prelude.{⊤}
 use Rattle.std.specs.List.{AllByRecursion}
 use Rattle.small_field.specs.Field.{Ops, IsField}
-use Rattle.linear_algebra.specs.Marks.{mark}
-use Rattle.linear_algebra.specs.Vectors.{combination, dot, entry, row_at, IsVector}
-use Rattle.linear_algebra.proofs.Dot.{dot_comm}
-use Rattle.linear_algebra.proofs.Marks.{combination-mark, dot_mark}
-use Rattle.linear_algebra.proofs.Span.{all_at}
-use Rattle.critical_laws.specs.declared.kind.Kind.{Kind}
-use Rattle.critical_laws.specs.declared.kind.Kind.TheVariants.{Critical, Lower, Upper}
-use Rattle.critical_laws.specs.declared.matching.Match.{Match}
-use Rattle.critical_laws.specs.Pairs.{Triangular, HasUpper, kind_at}
+use Rattle.linear_laws.specs.Marks.{mark}
+use Rattle.linear_laws.specs.Vectors.{combination, dot, entry, row_at, IsVector}
+use Rattle.linear_laws.proofs.Dot.{dot_comm}
+use Rattle.linear_laws.proofs.Marks.{combination-mark, dot_mark}
+use Rattle.linear_laws.proofs.Span.{all_at}
+use Rattle.split_laws.specs.declared.kind.Kind.{Kind}
+use Rattle.split_laws.specs.declared.kind.Kind.TheVariants.{Critical, Lower, Upper}
+use Rattle.split_laws.specs.declared.matching.Match.{Match}
+use Rattle.split_laws.specs.Pairs.{Triangular, HasUpper, kind_at}
 use Rattle.critical_complex.specs.declared.unit.Unit.{Unit}
 use Rattle.critical_complex.specs.Stages.{Stage, IsPaired}
 use Rattle.critical_complex.specs.Splits.{stage_at, IsSplitting}

@@ -1,7 +1,7 @@
 -- Columns as contracts see them.
 use Rattle.std.proofs.Common.{◌≡◌, ℕ, ◌+◌, ◌<◌, List, [], length, get_or, ap, sym, ◌∙◌, subst}
 use Rattle.small_field.specs.Field.{Ops, IsField}
-use Rattle.linear_algebra.specs.Vectors.{dot, column, entry, IsMatrix}
+use Rattle.linear_laws.specs.Vectors.{dot, column, entry, IsMatrix}
 use Rattle.field_matrix.specs.Rows.{Rows}
 use Rattle.critical_complex.specs.Columns.{coefficient, rows_from, sum_on, IsColumn, AreColumns}
 use Rattle.critical_complex.proofs.ColumnLemmas.{column_long, columns_long, column_at, entry_is, rows_long, rows_matrix, coefficient_below, dot_column}

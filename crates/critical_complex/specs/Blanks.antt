@@ -1,10 +1,10 @@
 -- How a matrix is filled, row by row.
 use Rattle.std.specs.Prelude.{◌≡◌, ℕ, List, length, slice_set}
 use Rattle.small_field.specs.Field.{Ops}
-use Rattle.linear_algebra.specs.Marks.{mark}
-use Rattle.linear_algebra.specs.Vectors.{combination}
-use Rattle.critical_laws.specs.Kinds.{criticals, part}
-use Rattle.critical_laws.specs.Solutions.{IsExtension}
+use Rattle.linear_laws.specs.Marks.{mark}
+use Rattle.linear_laws.specs.Vectors.{combination}
+use Rattle.split_laws.specs.Kinds.{criticals, part}
+use Rattle.split_laws.specs.Solutions.{IsExtension}
 use Rattle.critical_complex.specs.Stages.{Stage}
 
 -- a row has become the coboundary of the extension of a mark

@@ -1,7 +1,7 @@
 -- Columns of a matrix, each by cells of the lower degree, numbered from 1, with coefficients.
 use Rattle.std.specs.Prelude.{◌≡◌, ⊤, ℕ, ◌-◌, ◌≤◌, ◌<◌, ◌==◌, List, [], ◌∷◌, false, cond, map, slice_index}
 use Rattle.small_field.specs.Field.{Ops}
-use Rattle.linear_algebra.specs.Vectors.{bump}
+use Rattle.linear_laws.specs.Vectors.{bump}
 use Rattle.face_poset.specs.Words.{upto, holds}
 
 -- the coefficient of a cell in a column

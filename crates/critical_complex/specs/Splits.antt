@@ -3,9 +3,9 @@ use Rattle.std.specs.Prelude.{◌≡◌, ℕ, zero, suc, ◌<◌, List, [], Bool
 use Rattle.small_field.specs.Field.{Ops}
 use Rattle.field_matrix.specs.Rows.{Rows}
 use Rattle.face_poset.specs.declared.cells.Pair.{Pair}
-use Rattle.critical_laws.specs.declared.kind.Kind.{Kind}
-use Rattle.critical_laws.specs.Kinds.{criticals, HasNoUpper}
-use Rattle.critical_laws.specs.Solutions.{IsReducedBy}
+use Rattle.split_laws.specs.declared.kind.Kind.{Kind}
+use Rattle.split_laws.specs.Kinds.{criticals, HasNoUpper}
+use Rattle.split_laws.specs.Solutions.{IsReducedBy}
 use Rattle.critical_complex.specs.Stages.{Stage, empty_stage, IsPaired}
 use Rattle.critical_complex.specs.Signed.{IsStageOf}
 

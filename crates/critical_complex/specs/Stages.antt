@@ -2,10 +2,10 @@
 -- with uppers of the next degree, in the order of the field.
 use Rattle.std.specs.Prelude.{◌≡◌, ℕ, zero, suc, ◌+◌, ◌≤◌, List, [], ◌∷◌, length}
 use Rattle.small_field.specs.Field.{Ops}
-use Rattle.critical_laws.specs.declared.kind.Kind.{Kind}
-use Rattle.critical_laws.specs.declared.kind.Kind.TheVariants.{Critical, Lower, Upper}
-use Rattle.critical_laws.specs.declared.matching.Match.{Match}
-use Rattle.critical_laws.specs.Pairs.{IsMatching}
+use Rattle.split_laws.specs.declared.kind.Kind.{Kind}
+use Rattle.split_laws.specs.declared.kind.Kind.TheVariants.{Critical, Lower, Upper}
+use Rattle.split_laws.specs.declared.matching.Match.{Match}
+use Rattle.split_laws.specs.Pairs.{IsMatching}
 
 -- the numbers of the critical cells, where the first cell has the number n
 abbrev pub critical_from : (n : ℕ) → List Kind → List ℕ

@@ -1,11 +1,11 @@
 -- The units of a reduction.
 use Rattle.std.specs.Prelude.{◌≡◌, ◌≢◌, ℕ, suc, ◌+◌, ◌-◌, ◌<◌, List, [], ◌∷◌, length, replicate, set, slice_index_or}
 use Rattle.small_field.specs.Field.{Ops}
-use Rattle.linear_algebra.specs.Vectors.{combination, dot}
-use Rattle.critical_laws.specs.declared.kind.Kind.{Kind}
-use Rattle.critical_laws.specs.declared.kind.Kind.TheVariants.{Critical, Lower, Upper}
-use Rattle.critical_laws.specs.declared.matching.Match.{Match}
-use Rattle.critical_laws.specs.Pairs.{kind_at}
+use Rattle.linear_laws.specs.Vectors.{combination, dot}
+use Rattle.split_laws.specs.declared.kind.Kind.{Kind}
+use Rattle.split_laws.specs.declared.kind.Kind.TheVariants.{Critical, Lower, Upper}
+use Rattle.split_laws.specs.declared.matching.Match.{Match}
+use Rattle.split_laws.specs.Pairs.{kind_at}
 use Rattle.critical_complex.specs.declared.unit.Unit.{Unit}
 use Rattle.critical_complex.specs.Stages.{Stage}
 

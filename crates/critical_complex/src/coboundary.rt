@@ -1,22 +1,22 @@
 // The coboundaries of extensions from critical cells.
 ghost use Rattle.std.specs.Prelude.{◌≡◌, ◌<◌, ◌≤◌, ℕ, List, length, replicate, slice_set, slice_index, IfOk, OnOk};
 ghost use Rattle.std.specs.List.{AllByRecursion};
-ghost use Rattle.linear_algebra.specs.Vectors.{column, combination, dot, row_at};
-ghost use Rattle.critical_laws.specs.declared.kind.Kind.TheVariants.{Critical};
-ghost use Rattle.critical_laws.specs.Kinds.{criticals, part};
-ghost use Rattle.critical_laws.specs.Pairs.{kind_at};
-ghost use Rattle.critical_laws.specs.Solutions.{IsReducedBy};
+ghost use Rattle.linear_laws.specs.Vectors.{column, combination, dot, row_at};
+ghost use Rattle.split_laws.specs.declared.kind.Kind.TheVariants.{Critical};
+ghost use Rattle.split_laws.specs.Kinds.{criticals, part};
+ghost use Rattle.split_laws.specs.Pairs.{kind_at};
+ghost use Rattle.split_laws.specs.Solutions.{IsReducedBy};
 ghost use Rattle.critical_complex.specs.Stages.{place_of, IsPaired};
 ghost use Rattle.critical_complex.specs.Blanks.{HasRow};
 ghost use Rattle.critical_complex.specs.Reaches.{cleared, AreDegrees, AreIndexes, IsFound, IsReach};
 
 use crate::reach::Reach;
 use crate::stage::Stage;
-use critical_laws::{Kind, Match};
 use face_poset::Signed;
 use field_matrix::Matrix;
 use order_complex::Cochain;
 use small_field::Field;
+use split_laws::{Kind, Match};
 use std::alloc::{AllocError, Global};
 
 /// Puts the coboundary of a cochain at a cell of the next degree into a row, where the cell is critical.

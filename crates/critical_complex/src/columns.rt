@@ -1,6 +1,6 @@
 // The columns of a coboundary.
 ghost use Rattle.std.specs.Prelude.{◌≡◌, ◌+◌, ◌<◌, ◌≤◌, length, IfOk};
-ghost use Rattle.linear_algebra.specs.Vectors.{column, dot, entry, plus_scaled};
+ghost use Rattle.linear_laws.specs.Vectors.{column, dot, entry, plus_scaled};
 ghost use Rattle.face_poset.specs.Poset.{count};
 ghost use Rattle.critical_complex.specs.Signed.{signed_rows};
 ghost use Rattle.critical_complex.specs.Columns.{coefficient, sum_on, add_on, IsColumn, AreColumns};

@@ -1,18 +1,18 @@
 // Flows from critical cells: substitution along the pairs of a field, the last pair first.
 ghost use Rattle.std.specs.Prelude.{◌≡◌, ◌≢◌, ◌<◌, ◌≤◌, [], length, replicate, IfOk};
 ghost use Rattle.std.specs.List.{AllByRecursion};
-ghost use Rattle.linear_algebra.specs.Vectors.{boundary as boundary_of, bump, entry, IsMatrix};
-ghost use Rattle.critical_laws.specs.Kinds.{criticals, spread};
-ghost use Rattle.critical_laws.specs.Pairs.{Triangular, back_correction, carry as carried};
-ghost use Rattle.critical_laws.specs.Solutions.{IsFlow};
+ghost use Rattle.linear_laws.specs.Vectors.{boundary as boundary_of, bump, entry, IsMatrix};
+ghost use Rattle.split_laws.specs.Kinds.{criticals, spread};
+ghost use Rattle.split_laws.specs.Pairs.{Triangular, back_correction, carry as carried};
+ghost use Rattle.split_laws.specs.Solutions.{IsFlow};
 ghost use Rattle.critical_complex.specs.Stages.{IsPaired};
 
 use crate::columns::Columns;
 use crate::stage::Stage;
-use critical_laws::Match;
 use field_matrix::Row;
 use order_complex::Cochain;
 use small_field::Field;
+use split_laws::Match;
 use std::alloc::{AllocError, Global};
 
 /// Changes a chain at the upper of a pair, so that its boundary is zero at the lower, and the boundary with it.

@@ -1,9 +1,9 @@
 // The indexes of pairs and of critical cells.
 ghost use Rattle.std.specs.Prelude.{◌≡◌, ◌<◌, ℕ, length, slice_index, IfOk};
 ghost use Rattle.std.specs.List.{AllByRecursion};
-ghost use Rattle.critical_laws.specs.declared.kind.Kind.TheVariants.{Upper};
-ghost use Rattle.critical_laws.specs.Kinds.{criticals};
-ghost use Rattle.critical_laws.specs.Pairs.{kind_at};
+ghost use Rattle.split_laws.specs.declared.kind.Kind.TheVariants.{Upper};
+ghost use Rattle.split_laws.specs.Kinds.{criticals};
+ghost use Rattle.split_laws.specs.Pairs.{kind_at};
 ghost use Rattle.critical_complex.specs.Stages.{place_of, IsPaired};
 ghost use Rattle.critical_complex.specs.Reaches.{HasPair, AreIndexes};
 ghost use Rattle.critical_complex.specs.Units.{pair_at};

@@ -5,9 +5,9 @@ ghost use Rattle.vector_field.specs.Pairings.{HasCell};
 ghost use Rattle.critical_complex.specs.Stages.{critical_from};
 ghost use Rattle.critical_complex.specs.Signed.{sign_element, matches_of, AreKinds, IsKind};
 
-use critical_laws::{Kind, Match};
 use face_poset::Signed;
 use small_field::Field;
+use split_laws::{Kind, Match};
 use std::alloc::{AllocError, Global};
 use vector_field::{PairList, Partner};
 

@@ -1,8 +1,8 @@
 // The search for what the extension from a critical cell meets.
 ghost use Rattle.std.specs.Prelude.{◌≡◌, ◌+◌, ◌-◌, ◌++◌, ◌<◌, ◌≤◌, ℕ, length, map, slice_index, All, Contains, IfOk, OnOk};
 ghost use Rattle.std.specs.List.Sorted.{IsStrictlyIncreasing};
-ghost use Rattle.critical_laws.specs.declared.kind.Kind.TheVariants.{Upper};
-ghost use Rattle.critical_laws.specs.Pairs.{kind_at};
+ghost use Rattle.split_laws.specs.declared.kind.Kind.TheVariants.{Upper};
+ghost use Rattle.split_laws.specs.Pairs.{kind_at};
 ghost use Rattle.critical_complex.specs.Stages.{IsPaired};
 ghost use Rattle.critical_complex.specs.Reaches.{upper_index, AreDegrees, AreIndexes, HasCofaces, HasMore, HoldsAll, IsClosed, IsOrder, IsReach};
 ghost use Rattle.critical_complex.specs.Units.{pair_at};
@@ -10,9 +10,9 @@ ghost use Rattle.critical_complex.specs.Units.{pair_at};
 use crate::found::Found;
 use crate::indexes::list_indexes;
 use crate::stage::Stage;
-use critical_laws::{Kind, Match};
 use face_poset::Signed;
 use small_field::Field;
+use split_laws::{Kind, Match};
 use std::alloc::{AllocError, Global};
 
 /// Puts these numbers among those found.

@@ -1,8 +1,8 @@
 // The reduction of a signed set to the critical cells of a field of pairs.
 ghost use Rattle.std.specs.Prelude.{◌≡◌, ◌+◌, ◌<◌, ◌≤◌, ℕ, suc, length, IfOk};
 ghost use Rattle.vector_field.specs.Pairs.{IsFieldOf};
-ghost use Rattle.critical_laws.specs.Kinds.{criticals};
-ghost use Rattle.critical_laws.specs.Solutions.{IsCleared, IsExtension, IsFlow, IsReducedBy};
+ghost use Rattle.split_laws.specs.Kinds.{criticals};
+ghost use Rattle.split_laws.specs.Solutions.{IsCleared, IsExtension, IsFlow, IsReducedBy};
 ghost use Rattle.critical_complex.specs.Stages.{critical_from, IsPaired};
 ghost use Rattle.critical_complex.specs.Reaches.{AreDegrees};
 ghost use Rattle.critical_complex.specs.Units.{uppers, pair_at, IsTriangular, IsUnitOf, MatchUppers};

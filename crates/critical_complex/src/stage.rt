@@ -1,13 +1,13 @@
 // What is kept of one degree.
 ghost use Rattle.std.specs.Prelude.{◌≡◌, ◌<◌, ◌≤◌, [], length, replicate, IfOk};
-ghost use Rattle.linear_algebra.specs.Vectors.{boundary as boundary_of, column, dot, plus_scaled};
-ghost use Rattle.critical_laws.specs.Kinds.{criticals, part, spread, HasNoUpper};
-ghost use Rattle.critical_laws.specs.Solutions.{IsCleared, IsExtension, without};
+ghost use Rattle.linear_laws.specs.Vectors.{boundary as boundary_of, column, dot, plus_scaled};
+ghost use Rattle.split_laws.specs.Kinds.{criticals, part, spread, HasNoUpper};
+ghost use Rattle.split_laws.specs.Solutions.{IsCleared, IsExtension, without};
 ghost use Rattle.critical_complex.specs.Units.{IsTriangular, IsUnitOf, pair_at};
 ghost use Rattle.critical_complex.specs.Stages.{critical_from, place_of, IsSmall, IsPaired};
 ghost use Rattle.vector_field.specs.Pairs.{IsFieldOf};
 ghost use Rattle.std.specs.List.{AllByRecursion};
-ghost use Rattle.critical_laws.specs.Pairs.{carry as carried, kind_at, settle as settled, Triangular};
+ghost use Rattle.split_laws.specs.Pairs.{carry as carried, kind_at, settle as settled, Triangular};
 ghost use Rattle.critical_complex.specs.Signed.{IsStageOf};
 
 use crate::cleared::Cleared;
@@ -16,11 +16,11 @@ use crate::flow::carry;
 use crate::listing::{list_critical, list_kinds, list_pairs};
 use crate::substitution::settle;
 use crate::unit::Unit;
-use critical_laws::{Kind, Match};
 use face_poset::Signed;
 use field_matrix::Row;
 use order_complex::Cochain;
 use small_field::{Entry, Field, Sparse};
+use split_laws::{Kind, Match};
 use std::alloc::{AllocError, Global};
 use std::marker::Model;
 use vector_field::PairList;

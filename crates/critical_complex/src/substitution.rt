@@ -1,13 +1,13 @@
 // Substitution along the pairs of a field.
 ghost use Rattle.std.specs.Prelude.{◌≡◌, ◌≢◌, ◌<◌, ◌≤◌, length};
 ghost use Rattle.std.specs.List.{AllByRecursion};
-ghost use Rattle.linear_algebra.specs.Vectors.{bump, entry};
-ghost use Rattle.critical_laws.specs.Pairs.{Triangular, correction, settle as settled};
+ghost use Rattle.linear_laws.specs.Vectors.{bump, entry};
+ghost use Rattle.split_laws.specs.Pairs.{Triangular, correction, settle as settled};
 
 use crate::columns::Columns;
-use critical_laws::Match;
 use order_complex::Cochain;
 use small_field::Field;
+use split_laws::Match;
 
 /// Changes a cochain at the lower of a pair, so that its coboundary at the upper is that of t.
 fn settle_pair<F: Field>(columns: &Columns<F>, pair: Match, t: &Cochain<F>, y: &mut Cochain<F>)

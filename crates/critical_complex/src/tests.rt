@@ -1,7 +1,7 @@
 // The circle of two points and two edges. Its chains are four points and four edges, from 1 to 3 and 4 and
 // from 2 to 3 and 4. What is wanted was worked out by hand, over the field of three elements.
 ghost use Rattle.std.specs.Prelude.{◌≡◌, ◌≤◌, length, IfOk};
-ghost use Rattle.critical_laws.specs.Kinds.{criticals};
+ghost use Rattle.split_laws.specs.Kinds.{criticals};
 ghost use Rattle.critical_complex.specs.Splits.{kinds_at};
 
 use crate::Reduced;

@@ -7,15 +7,15 @@ use Rattle.std.proofs.lemmas.List.Elements.{recursion_from_All, All-from_recursi
 use native.Mathlib.Decide.{dec_lt}
 use Prim.{yes, no}
 use Rattle.small_field.specs.Field.{Ops, IsField}
-use Rattle.linear_algebra.specs.Marks.{mark}
-use Rattle.linear_algebra.specs.Vectors.{dot, column, IsVector, IsMatrix, IsBasis, InSpan, IsIndependent, plus_scaled, combination, row_at}
-use Rattle.linear_algebra.specs.Echelon.{IsReducedTo}
-use Rattle.linear_algebra.proofs.Dot.{neg_zero, neg_mul, neg_unique, dot_zeros, dot_comm, dot_below, dot_added}
-use Rattle.linear_algebra.proofs.Decide.{neg_neg}
-use Rattle.linear_algebra.proofs.Span.{combination-vector, combination-plus, combination-zeros, plus_scaled-vector, zeros-elements, one_times, taken_back, span_rows, span_plus, span_zero, all_at, same_span, list_below}
-use Rattle.linear_algebra.proofs.Dimension.{combination_twice}
-use Rattle.linear_algebra.proofs.Betti.{all_append, all_take, all_drop, all_weaker, in_span_trans, combination-append}
-use Rattle.linear_algebra.proofs.Marks.{dot-append, zeros_append}
+use Rattle.linear_laws.specs.Marks.{mark}
+use Rattle.linear_laws.specs.Vectors.{dot, column, IsVector, IsMatrix, IsBasis, InSpan, IsIndependent, plus_scaled, combination, row_at}
+use Rattle.linear_laws.specs.Echelon.{IsReducedTo}
+use Rattle.linear_laws.proofs.Dot.{neg_zero, neg_mul, neg_unique, dot_zeros, dot_comm, dot_below, dot_added}
+use Rattle.linear_laws.proofs.Decide.{neg_neg}
+use Rattle.linear_laws.proofs.Span.{combination-vector, combination-plus, combination-zeros, plus_scaled-vector, zeros-elements, one_times, taken_back, span_rows, span_plus, span_zero, all_at, same_span, list_below}
+use Rattle.linear_laws.proofs.Dimension.{combination_twice}
+use Rattle.linear_laws.proofs.Betti.{all_append, all_take, all_drop, all_weaker, in_span_trans, combination-append}
+use Rattle.linear_laws.proofs.Marks.{dot-append, zeros_append}
 use Rattle.field_matrix.specs.Solutions.{above, rows_at, IsComplement}
 use Rattle.field_matrix.proofs.Chosen.{above_low, above_high, Above, above_from, marks_matrix, marks_rows, read_unit, to_after, spanned}
 

@@ -1,10 +1,10 @@
 use Rattle.std.proofs.Common.{◌≡◌, ◌≢◌, ℕ, ◌<◌, List, [], length, length-set, map, get_or, get_or-set_same, get_or-set_other, set, ap, sym, ◌∙◌, arith, subst, inl, inr}
 use Rattle.std.proofs.lemmas.Simd.{get_or-zip2}
 use Rattle.small_field.specs.Field.{Ops, IsField}
-use Rattle.linear_algebra.specs.Vectors.{IsVector, IsMatrix, plus_scaled, SameSpan, row_at, entry}
-use Rattle.linear_algebra.proofs.Dot.{zero_below, mul_zero, zero_mul}
-use Rattle.linear_algebra.proofs.Span.{addition_keeps_span, row_entry_below, plus_scaled-vector, all_at, all_set}
-use Rattle.linear_algebra.proofs.Scaled.{same_or_not, one_is_not_zero, scaling_keeps_span, scaled-vector, scaled_at}
+use Rattle.linear_laws.specs.Vectors.{IsVector, IsMatrix, plus_scaled, SameSpan, row_at, entry}
+use Rattle.linear_laws.proofs.Dot.{zero_below, mul_zero, zero_mul}
+use Rattle.linear_laws.proofs.Span.{addition_keeps_span, row_entry_below, plus_scaled-vector, all_at, all_set}
+use Rattle.linear_laws.proofs.Scaled.{same_or_not, one_is_not_zero, scaling_keeps_span, scaled-vector, scaled_at}
 use Rattle.field_matrix.specs.Steps.{IsBroughtUp, ZeroBelow}
 
 module _ (k : Ops) (f : IsField k) where

@@ -2,11 +2,11 @@ use Rattle.std.proofs.Common.{◌≡◌, ◌≢◌, ℕ, zero, suc, ◌+◌, ◌
 use Rattle.std.proofs.lemmas.List.{take-append-le, drop-append-le, take_all, take_more, get_or-drop}
 use Rattle.std.proofs.lemmas.Simd.{length-replicate, get_or-replicate}
 use Rattle.std.proofs.lemmas.Bool.Decides.{nat_tests}
-use Rattle.linear_algebra.specs.Marks.{mark, identity, beside, rights}
-use Rattle.linear_algebra.specs.Vectors.{row_at}
-use Rattle.linear_algebra.proofs.Marks.{length-mark, length-identity, identity_row, length-beside, beside_row}
-use Rattle.linear_algebra.proofs.Halves.{row_at-map}
-use Rattle.linear_algebra.proofs.Scaled.{same_or_not}
+use Rattle.linear_laws.specs.Marks.{mark, identity, beside, rights}
+use Rattle.linear_laws.specs.Vectors.{row_at}
+use Rattle.linear_laws.proofs.Marks.{length-mark, length-identity, identity_row, length-beside, beside_row}
+use Rattle.linear_laws.proofs.Halves.{row_at-map}
+use Rattle.linear_laws.proofs.Scaled.{same_or_not}
 use Rattle.field_matrix.specs.Rows.{cut}
 
 same_is : (a b : ℕ) → a ≡ b → ◌≡◌ {A = ℕ} (if a == b then 1 else 0) 1

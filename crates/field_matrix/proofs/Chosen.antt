@@ -7,19 +7,19 @@ use Rattle.std.proofs.lemmas.Bool.Decides.{nat_tests}
 use native.Mathlib.Decide.{dec_lt}
 use Prim.{yes, no}
 use Rattle.small_field.specs.Field.{Ops, IsField}
-use Rattle.linear_algebra.specs.Marks.{mark}
-use Rattle.linear_algebra.specs.Vectors.{AreElements, dot, column, boundary, IsVector, IsMatrix, InSpan, plus_scaled, combination, row_at}
-use Rattle.linear_algebra.specs.Echelon.{IsReducedTo, IsReducedBelow}
-use Rattle.linear_algebra.proofs.Dot.{dot_zeros, dot_comm, dot_added, neg_unique, neg_mul}
-use Rattle.linear_algebra.proofs.Span.{combination-vector, combination-plus, plus_scaled-vector, span_rows, all_at, list_below}
-use Rattle.linear_algebra.proofs.Decide.{entry_combination, zeros_of_dots, neg_neg}
-use Rattle.linear_algebra.proofs.Dimension.{combination_twice}
-use Rattle.linear_algebra.proofs.Adjoint.{adjoint}
-use Rattle.linear_algebra.proofs.Bump.{column_entry}
-use Rattle.linear_algebra.proofs.Solve.{column_below}
-use Rattle.linear_algebra.proofs.Betti.{all_take, all_weaker, dot_unit, length-column}
-use Rattle.linear_algebra.proofs.Marks.{mark_vector, combination-mark, dot_mark}
-use Rattle.linear_algebra.proofs.Triangles.{dot_of_none}
+use Rattle.linear_laws.specs.Marks.{mark}
+use Rattle.linear_laws.specs.Vectors.{AreElements, dot, column, boundary, IsVector, IsMatrix, InSpan, plus_scaled, combination, row_at}
+use Rattle.linear_laws.specs.Echelon.{IsReducedTo, IsReducedBelow}
+use Rattle.linear_laws.proofs.Dot.{dot_zeros, dot_comm, dot_added, neg_unique, neg_mul}
+use Rattle.linear_laws.proofs.Span.{combination-vector, combination-plus, plus_scaled-vector, span_rows, all_at, list_below}
+use Rattle.linear_laws.proofs.Decide.{entry_combination, zeros_of_dots, neg_neg}
+use Rattle.linear_laws.proofs.Dimension.{combination_twice}
+use Rattle.linear_laws.proofs.Adjoint.{adjoint}
+use Rattle.linear_laws.proofs.Bump.{column_entry}
+use Rattle.linear_laws.proofs.Solve.{column_below}
+use Rattle.linear_laws.proofs.Betti.{all_take, all_weaker, dot_unit, length-column}
+use Rattle.linear_laws.proofs.Marks.{mark_vector, combination-mark, dot_mark}
+use Rattle.linear_laws.proofs.Triangles.{dot_of_none}
 use Rattle.field_matrix.specs.Solutions.{above, rows_at}
 
 below_is : (p s : ℕ) → p < s → nat_lt p s ≡ true

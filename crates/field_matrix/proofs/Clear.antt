@@ -3,9 +3,9 @@ use Rattle.std.proofs.lemmas.Simd.{get_or-zip2}
 use native.Mathlib.Decide.{dec_lt}
 use Prim.{yes, no}
 use Rattle.small_field.specs.Field.{Ops, IsField}
-use Rattle.linear_algebra.specs.Vectors.{IsVector, IsMatrix, plus_scaled, row_at, entry}
-use Rattle.linear_algebra.proofs.Dot.{add_zero, mul_zero}
-use Rattle.linear_algebra.proofs.Span.{same_span_trans, row_entry_below, addition_keeps_span, plus_scaled-vector, all_at, all_set}
+use Rattle.linear_laws.specs.Vectors.{IsVector, IsMatrix, plus_scaled, row_at, entry}
+use Rattle.linear_laws.proofs.Dot.{add_zero, mul_zero}
+use Rattle.linear_laws.proofs.Span.{same_span_trans, row_entry_below, addition_keeps_span, plus_scaled-vector, all_at, all_set}
 use Rattle.field_matrix.specs.Steps.{IsCleared, IsPivotRow}
 
 module _ (k : Ops) (f : IsField k) where

@@ -3,8 +3,8 @@ use Rattle.std.proofs.lemmas.List.{take_at, take-append-le, drop-append-le, take
 use Rattle.std.proofs.lemmas.List.Elements.{All-from_recursion}
 use Rattle.std.proofs.Math.Seq.{drop-append_seam}
 use Rattle.small_field.specs.Field.{Ops}
-use Rattle.linear_algebra.specs.Vectors.{AreElements, IsMatrix, row_at}
-use Rattle.linear_algebra.proofs.Betti.{all_append, all_take, all_drop}
+use Rattle.linear_laws.specs.Vectors.{AreElements, IsMatrix, row_at}
+use Rattle.linear_laws.proofs.Betti.{all_append, all_take, all_drop}
 use Rattle.field_matrix.specs.Rows.{cut}
 
 drop_at : (xs ys : List ℕ) (c : ℕ) → length xs ≡ c → drop c (xs ++ ys) ≡ ys

@@ -8,13 +8,13 @@ use Prim.{yes, no}
 use Rattle.lane_rows.specs.Lanes.{first_place}
 use Rattle.lane_rows.proofs.Loops.{place_found, place_missing}
 use Rattle.small_field.specs.Field.{Ops, IsField}
-use Rattle.linear_algebra.specs.Vectors.{IsVector, IsMatrix, IsBasis, InSpan, row_at}
-use Rattle.linear_algebra.specs.Echelon.{IsReducedBelow, IsReducedTo, IsReduced, is_nonzero, rank_of}
-use Rattle.linear_algebra.proofs.Span.{all_at, span_rows}
-use Rattle.linear_algebra.proofs.Scaled.{one_is_not_zero}
-use Rattle.linear_algebra.proofs.Laws.{rank_of_basis}
-use Rattle.linear_algebra.proofs.Betti.{all_take, all_weaker, in_span_trans, pivots_span, pivots_independent, long_pivots}
-use Rattle.linear_algebra.proofs.Betti.{rank_is_dimension as same_rank}
+use Rattle.linear_laws.specs.Vectors.{IsVector, IsMatrix, IsBasis, InSpan, row_at}
+use Rattle.linear_laws.specs.Echelon.{IsReducedBelow, IsReducedTo, IsReduced, is_nonzero, rank_of}
+use Rattle.linear_laws.proofs.Span.{all_at, span_rows}
+use Rattle.linear_laws.proofs.Scaled.{one_is_not_zero}
+use Rattle.linear_laws.proofs.Laws.{rank_of_basis}
+use Rattle.linear_laws.proofs.Betti.{all_take, all_weaker, in_span_trans, pivots_span, pivots_independent, long_pivots}
+use Rattle.linear_laws.proofs.Betti.{rank_is_dimension as same_rank}
 
 pub nonzero_at : (row : List ℕ) (j : ℕ) → get_or row j 0 ≢ 0 → is_nonzero row ≡ true
 nonzero_at [] j ne = absurd (ne refl)

@@ -3,16 +3,16 @@ use Rattle.std.proofs.lemmas.Simd.{length-replicate}
 use Rattle.std.proofs.lemmas.List.{length-map, take_at, get_or-take}
 use Rattle.std.proofs.lemmas.Bool.Decides.{nat_tests}
 use Rattle.small_field.specs.Field.{Ops, IsField}
-use Rattle.linear_algebra.specs.Marks.{identity, beside, lefts}
-use Rattle.linear_algebra.specs.Vectors.{AreElements, IsVector, IsMatrix, InSpan, plus_scaled, combination}
-use Rattle.linear_algebra.specs.Echelon.{IsReducedTo, is_nonzero}
-use Rattle.linear_algebra.proofs.Dot.{neg_mul, neg_unique}
-use Rattle.linear_algebra.proofs.Decide.{neg_neg}
-use Rattle.linear_algebra.proofs.Span.{combination-vector, one_times, span_plus, zeros-elements, plus_scaled-long}
-use Rattle.linear_algebra.proofs.Scaled.{span_scaled}
-use Rattle.linear_algebra.proofs.Betti.{zero_at_pivots, all_append}
-use Rattle.linear_algebra.proofs.Halves.{drop_at, take-plus_scaled, drop-plus_scaled, left_vector}
-use Rattle.linear_algebra.proofs.History.{told_by_right, left_reduced, left_pivots}
+use Rattle.linear_laws.specs.Marks.{identity, beside, lefts}
+use Rattle.linear_laws.specs.Vectors.{AreElements, IsVector, IsMatrix, InSpan, plus_scaled, combination}
+use Rattle.linear_laws.specs.Echelon.{IsReducedTo, is_nonzero}
+use Rattle.linear_laws.proofs.Dot.{neg_mul, neg_unique}
+use Rattle.linear_laws.proofs.Decide.{neg_neg}
+use Rattle.linear_laws.proofs.Span.{combination-vector, one_times, span_plus, zeros-elements, plus_scaled-long}
+use Rattle.linear_laws.proofs.Scaled.{span_scaled}
+use Rattle.linear_laws.proofs.Betti.{zero_at_pivots, all_append}
+use Rattle.linear_laws.proofs.Halves.{drop_at, take-plus_scaled, drop-plus_scaled, left_vector}
+use Rattle.linear_laws.proofs.History.{told_by_right, left_reduced, left_pivots}
 use Rattle.field_matrix.specs.Steps.{IsReducedBy, IsSwept, IsClearAt}
 use Rattle.field_matrix.proofs.Sweep.{place_is}
 

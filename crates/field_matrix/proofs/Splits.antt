@@ -2,8 +2,8 @@ use Rattle.std.proofs.Common.{◌≡◌, ℕ, ◌+◌, ◌*◌, ◌<◌, ◌≤�
 use Rattle.std.proofs.lemmas.List.{set-append_left, set-append_right, get_or_append_left, get_or-append_right, take-append-drop, length-take-le}
 use Rattle.std.proofs.Math.Nat.{mul-le-mul_right}
 use Rattle.small_field.specs.Field.{Ops, IsField}
-use Rattle.linear_algebra.specs.Vectors.{AreElements, IsVector, IsMatrix, plus_scaled, row_at, entry}
-use Rattle.linear_algebra.proofs.Span.{all_at, plus_scaled-vector}
+use Rattle.linear_laws.specs.Vectors.{AreElements, IsVector, IsMatrix, plus_scaled, row_at, entry}
+use Rattle.linear_laws.proofs.Span.{all_at, plus_scaled-vector}
 use Rattle.field_matrix.specs.Rows.{cut}
 use Rattle.field_matrix.proofs.Cut.{length-cut, cut-middle, cut-replaced, cut-front, cut-back, elements_below}
 

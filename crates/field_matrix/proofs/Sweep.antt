@@ -2,12 +2,12 @@ use Rattle.std.proofs.Common.{◌≡◌, ℕ, ◌+◌, ◌<◌, ◌≤◌, List,
 use Rattle.std.proofs.lemmas.Simd.{get_or-zip2}
 use Rattle.lane_rows.specs.Lanes.{first_place}
 use Rattle.small_field.specs.Field.{Ops, IsField}
-use Rattle.linear_algebra.specs.Vectors.{IsVector, IsMatrix, InSpan, plus_scaled, row_at}
-use Rattle.linear_algebra.specs.Echelon.{IsReducedBelow}
-use Rattle.linear_algebra.proofs.Dot.{zero_below, mul_zero}
-use Rattle.linear_algebra.proofs.Span.{all_at, plus_scaled-vector, span_zero, span_plus, span_rows, combination-vector}
-use Rattle.linear_algebra.proofs.Scaled.{same_or_not}
-use Rattle.linear_algebra.proofs.Betti.{regroup, plus_zeros}
+use Rattle.linear_laws.specs.Vectors.{IsVector, IsMatrix, InSpan, plus_scaled, row_at}
+use Rattle.linear_laws.specs.Echelon.{IsReducedBelow}
+use Rattle.linear_laws.proofs.Dot.{zero_below, mul_zero}
+use Rattle.linear_laws.proofs.Span.{all_at, plus_scaled-vector, span_zero, span_plus, span_rows, combination-vector}
+use Rattle.linear_laws.proofs.Scaled.{same_or_not}
+use Rattle.linear_laws.proofs.Betti.{regroup, plus_zeros}
 use Rattle.field_matrix.specs.Steps.{IsReducedBy, IsSwept, IsClearAt}
 use Rattle.field_matrix.proofs.Ranks.{first_is, pivot_first_in}
 

@@ -6,11 +6,11 @@ use Prim.{yes, no}
 use Rattle.lane_rows.specs.Lanes.{first_place}
 use Rattle.small_field.specs.Field.{Ops, IsField}
 use Rattle.std.proofs.lemmas.List.Elements.{recursion_from_All}
-use Rattle.linear_algebra.specs.Vectors.{IsVector, IsMatrix, column, row_at}
-use Rattle.linear_algebra.proofs.Betti.{all_append, length-column}
-use Rattle.linear_algebra.proofs.Solve.{column_below}
-use Rattle.linear_algebra.specs.Echelon.{IsReducedBelow, is_nonzero}
-use Rattle.linear_algebra.proofs.Scaled.{one_is_not_zero}
+use Rattle.linear_laws.specs.Vectors.{IsVector, IsMatrix, column, row_at}
+use Rattle.linear_laws.proofs.Betti.{all_append, length-column}
+use Rattle.linear_laws.proofs.Solve.{column_below}
+use Rattle.linear_laws.specs.Echelon.{IsReducedBelow, is_nonzero}
+use Rattle.linear_laws.proofs.Scaled.{one_is_not_zero}
 use Rattle.field_matrix.specs.Rows.{cut}
 use Rattle.field_matrix.specs.Solutions.{above}
 use Rattle.field_matrix.proofs.Cut.{length-cut}

@@ -3,8 +3,8 @@ use Rattle.std.proofs.lemmas.List.{take_at}
 use Rattle.std.proofs.Math.Seq.{drop-append_seam}
 use Rattle.std.proofs.lemmas.Simd.{length-replicate}
 use Rattle.small_field.specs.Field.{Ops, IsField}
-use Rattle.linear_algebra.specs.Vectors.{IsMatrix, entry}
-use Rattle.linear_algebra.proofs.Span.{row_entry_below}
+use Rattle.linear_laws.specs.Vectors.{IsMatrix, entry}
+use Rattle.linear_laws.proofs.Span.{row_entry_below}
 use Rattle.field_matrix.specs.Rows.{cut, Rows, IsFilled}
 use Rattle.field_matrix.proofs.Cut.{length-cut, cut-matrix}
 

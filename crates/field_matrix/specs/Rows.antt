@@ -1,6 +1,6 @@
 use Rattle.std.specs.Prelude.{◌≡◌, ℕ, zero, suc, ◌*◌, ◌<◌, ◌^◌, List, [], ◌∷◌, length, take, drop}
 use Rattle.small_field.specs.Field.{Ops}
-use Rattle.linear_algebra.specs.Vectors.{AreElements}
+use Rattle.linear_laws.specs.Vectors.{AreElements}
 
 -- the first n rows of c numbers of a list that has them one after the other
 abbrev pub cut : ℕ → ℕ → List ℕ → List (List ℕ)

@@ -1,7 +1,7 @@
 use Rattle.std.specs.Prelude.{◌≡◌, ℕ, ◌<◌, ◌-◌, nat_lt, if◌then◌else◌, List, [], ◌∷◌, ◌++◌, length, map, All, Option, Some, None}
 use Rattle.std.specs.List.Sorted.{IsStrictlyIncreasing}
 use Rattle.small_field.specs.Field.{Ops}
-use Rattle.linear_algebra.specs.Vectors.{IsVector, combination, InSpan, IsBasis, row_at}
+use Rattle.linear_laws.specs.Vectors.{IsVector, combination, InSpan, IsBasis, row_at}
 
 -- coefficients of the rows whose combination is v, or none where there are none
 abbrev pub IsAnswer : Ops → ℕ → List (List ℕ) → List ℕ → Option (List ℕ) → Type 0

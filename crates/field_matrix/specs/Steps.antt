@@ -1,8 +1,8 @@
 use Rattle.std.specs.Prelude.{◌≡◌, ◌≢◌, ℕ, ◌<◌, ◌≤◌, List, Some, length, take, slice_index}
 use Rattle.lane_rows.specs.Lanes.{first_place}
 use Rattle.small_field.specs.Field.{Ops}
-use Rattle.linear_algebra.specs.Vectors.{IsMatrix, InSpan, SameSpan, plus_scaled, row_at, entry}
-use Rattle.linear_algebra.specs.Echelon.{IsReducedBelow}
+use Rattle.linear_laws.specs.Vectors.{IsMatrix, InSpan, SameSpan, plus_scaled, row_at, entry}
+use Rattle.linear_laws.specs.Echelon.{IsReducedBelow}
 
 -- what clearing a column leaves in the rows before `upto`, where row `rank` has a 1 there and nothing before it
 pub record IsCleared (k : Ops) (cols rank col upto : ℕ) (before after : List (List ℕ)) : Type 0 where

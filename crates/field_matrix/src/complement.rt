@@ -1,8 +1,8 @@
 //! Rows that complete a basis.
 
 ghost use Rattle.std.specs.Prelude.{◌≡◌, ℕ, ◌+◌, ◌*◌, ◌<◌, ◌≤◌, ◌^◌, ◌++◌, List, length, IfOk};
-ghost use Rattle.linear_algebra.specs.Vectors.{IsMatrix, column, row_at};
-ghost use Rattle.linear_algebra.specs.Echelon.{IsReducedBelow};
+ghost use Rattle.linear_laws.specs.Vectors.{IsMatrix, column, row_at};
+ghost use Rattle.linear_laws.specs.Echelon.{IsReducedBelow};
 ghost use Rattle.field_matrix.specs.Rows.{cut, IsFilled};
 ghost use Rattle.field_matrix.specs.Steps.{IsReducedBy};
 ghost use Rattle.field_matrix.specs.Solutions.{above, IsComplement};

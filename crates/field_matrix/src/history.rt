@@ -1,8 +1,8 @@
 //! Reduction with its history.
 
 ghost use Rattle.std.specs.Prelude.{◌≡◌, ℕ, ◌+◌, ◌*◌, ◌<◌, ◌≤◌, ◌^◌, List, length, IfOk};
-ghost use Rattle.linear_algebra.specs.Vectors.{IsHistory};
-ghost use Rattle.linear_algebra.specs.Echelon.{IsReducedTo, rank_of};
+ghost use Rattle.linear_laws.specs.Vectors.{IsHistory};
+ghost use Rattle.linear_laws.specs.Echelon.{IsReducedTo, rank_of};
 ghost use Rattle.field_matrix.specs.Rows.{cut, IsFilled};
 
 use crate::flat::Shape;

@@ -1,9 +1,9 @@
 //! Rows with the rows of the identity beside them, so that elimination keeps its history.
 
 ghost use Rattle.std.specs.Prelude.{◌≡◌, ◌≢◌, ℕ, ◌+◌, ◌-◌, ◌*◌, ◌<◌, ◌≤◌, ◌^◌, ◌++◌, ◌==◌, if◌then◌else◌, length, map, take, drop, replicate, IfOk, All};
-ghost use Rattle.linear_algebra.specs.Vectors.{AreElements, IsVector, IsMatrix, row_at};
-ghost use Rattle.linear_algebra.specs.Echelon.{IsReducedTo};
-ghost use Rattle.linear_algebra.specs.Marks.{mark, identity, beside, lefts, rights};
+ghost use Rattle.linear_laws.specs.Vectors.{AreElements, IsVector, IsMatrix, row_at};
+ghost use Rattle.linear_laws.specs.Echelon.{IsReducedTo};
+ghost use Rattle.linear_laws.specs.Marks.{mark, identity, beside, lefts, rights};
 ghost use Rattle.field_matrix.specs.Rows.{cut};
 ghost use Rattle.field_matrix.specs.Steps.{IsReducedBy, IsSwept, IsClearAt};
 

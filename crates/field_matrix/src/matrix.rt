@@ -2,8 +2,8 @@
 
 ghost use Rattle.std.specs.Prelude.{◌≡◌, ℕ, ◌+◌, ◌*◌, ◌<◌, ◌≤◌, ◌^◌, List, length, replicate, slice_index, slice_set, Some, IfOk};
 ghost use Rattle.lane_rows.specs.Lanes.{first_place};
-ghost use Rattle.linear_algebra.specs.Vectors.{AreElements, IsMatrix, IsBasis, row_at, entry};
-ghost use Rattle.linear_algebra.specs.Echelon.{IsReducedBelow, IsReducedTo, IsReduced, rank_of};
+ghost use Rattle.linear_laws.specs.Vectors.{AreElements, IsMatrix, IsBasis, row_at, entry};
+ghost use Rattle.linear_laws.specs.Echelon.{IsReducedBelow, IsReducedTo, IsReduced, rank_of};
 ghost use Rattle.field_matrix.specs.Rows.{cut, IsFilled};
 
 use crate::flat::{Shape, entry_of, row_of, set_entry};

@@ -1,8 +1,8 @@
 //! Elimination on the rows of a slice.
 
 ghost use Rattle.std.specs.Prelude.{◌≡◌, ◌≢◌, ℕ, ◌+◌, ◌*◌, ◌<◌, ◌≤◌, length, slice_set, IfSome, IfNone};
-ghost use Rattle.linear_algebra.specs.Vectors.{IsMatrix, SameSpan, plus_scaled, row_at, entry};
-ghost use Rattle.linear_algebra.specs.Echelon.{IsReducedTo};
+ghost use Rattle.linear_laws.specs.Vectors.{IsMatrix, SameSpan, plus_scaled, row_at, entry};
+ghost use Rattle.linear_laws.specs.Echelon.{IsReducedTo};
 ghost use Rattle.field_matrix.specs.Rows.{cut};
 ghost use Rattle.field_matrix.specs.Steps.{IsCleared, IsPivotRow, IsBroughtUp, ZeroBelow};
 

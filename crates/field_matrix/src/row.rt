@@ -1,7 +1,7 @@
 //! A list of elements.
 
 ghost use Rattle.std.specs.Prelude.{◌≡◌, ℕ, ◌<◌, ◌^◌, length, replicate, slice_index, slice_set, IfOk};
-ghost use Rattle.linear_algebra.specs.Vectors.{AreElements};
+ghost use Rattle.linear_laws.specs.Vectors.{AreElements};
 
 use small_field::Field;
 use std::alloc::{AllocError, Global};

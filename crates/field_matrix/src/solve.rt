@@ -1,9 +1,9 @@
 //! Solutions of linear equations, and kernels.
 
 ghost use Rattle.std.specs.Prelude.{◌≡◌, ℕ, ◌+◌, ◌-◌, ◌*◌, ◌<◌, ◌≤◌, ◌^◌, ◌++◌, List, length, map, replicate, IfOk};
-ghost use Rattle.linear_algebra.specs.Vectors.{AreElements, IsVector, IsMatrix, IsKernelBasis};
-ghost use Rattle.linear_algebra.specs.Echelon.{IsReducedTo};
-ghost use Rattle.linear_algebra.specs.Marks.{identity, beside};
+ghost use Rattle.linear_laws.specs.Vectors.{AreElements, IsVector, IsMatrix, IsKernelBasis};
+ghost use Rattle.linear_laws.specs.Echelon.{IsReducedTo};
+ghost use Rattle.linear_laws.specs.Marks.{identity, beside};
 ghost use Rattle.field_matrix.specs.Rows.{cut, IsFilled};
 ghost use Rattle.field_matrix.specs.Solutions.{IsAnswer};
 ghost use Rattle.field_matrix.specs.Steps.{IsReducedBy, IsSwept, IsClearAt};

@@ -1,5 +1,5 @@
 ghost use Rattle.std.specs.Prelude.{◌≡◌, ◌<◌, IfOk, length};
-ghost use Rattle.linear_algebra.specs.Echelon.{IsReduced};
+ghost use Rattle.linear_laws.specs.Echelon.{IsReduced};
 
 use super::*;
 use hap_outside::Steps;

@@ -4,11 +4,11 @@ use Rattle.std.specs.List.{AllByRecursion}
 use Rattle.std.proofs.lemmas.List.{length-map}
 use Rattle.small_field.specs.Field.{Ops, IsField}
 use Rattle.small_field.proofs.Laws.{add_cancel, add_zero, add_swap, neg_mul}
-use Rattle.linear_algebra.specs.Vectors.{plus_scaled, combination, IsVector, IsMatrix, AreElements, InSpan, IsInKernel}
-use Rattle.linear_algebra.specs.Echelon.{IsReducedTo}
-use Rattle.linear_algebra.specs.Betti.{IsCohomologyBasis}
-use Rattle.linear_algebra.proofs.Span.{combination-vector, combination-plus, span_plus, plus_scaled-vector}
-use Rattle.linear_algebra.proofs.Betti.{basis_by_ranks}
+use Rattle.linear_laws.specs.Vectors.{plus_scaled, combination, IsVector, IsMatrix, AreElements, InSpan, IsInKernel}
+use Rattle.linear_laws.specs.Echelon.{IsReducedTo}
+use Rattle.linear_laws.specs.Betti.{IsCohomologyBasis}
+use Rattle.linear_laws.proofs.Span.{combination-vector, combination-plus, span_plus, plus_scaled-vector}
+use Rattle.linear_laws.proofs.Betti.{basis_by_ranks}
 use Rattle.order_complex.specs.Chains.{chains_of}
 use Rattle.order_complex.specs.Cochains.{coboundary, coboundary_on, mark}
 use Rattle.order_complex.specs.Homology.{IsCocycle, IsCoboundary, IsClass, IsBasis, IsBetti}

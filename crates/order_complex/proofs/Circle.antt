@@ -3,9 +3,9 @@ use Rattle.std.proofs.Common.{◌≡◌, ◌≢◌, ℕ, zero, suc, ◌<◌, ◌
 use Rattle.small_field.specs.Field.{Ops, IsField}
 use Rattle.small_field.specs.ModField.{mod_field}
 use Rattle.small_field.specs.Prime.{mod_ops}
-use Rattle.linear_algebra.specs.Echelon.{IsReducedBelow, IsReducedTo}
-use Rattle.linear_algebra.specs.Vectors.{InSpan, IsMatrix, IsVector, entry}
-use Rattle.linear_algebra.proofs.Betti.{in_span_trans}
+use Rattle.linear_laws.specs.Echelon.{IsReducedBelow, IsReducedTo}
+use Rattle.linear_laws.specs.Vectors.{InSpan, IsMatrix, IsVector, entry}
+use Rattle.linear_laws.proofs.Betti.{in_span_trans}
 use Rattle.order_complex.specs.Homology.{IsBetti}
 use Rattle.order_complex.specs.Ranks.{rows_of}
 use Rattle.order_complex.proofs.Bases.{betti_by_ranks}

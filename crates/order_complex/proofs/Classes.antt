@@ -3,12 +3,12 @@ use Rattle.std.proofs.Common.{◌≡◌, ℕ, zero, suc, ◌<◌, ◌≤◌, Lis
 use Rattle.std.specs.List.{AllByRecursion}
 use Rattle.small_field.specs.Field.{Ops, IsField}
 use Rattle.small_field.proofs.Laws.{add_swap}
-use Rattle.linear_algebra.specs.Vectors.{plus_scaled, combination, IsVector, IsMatrix}
-use Rattle.linear_algebra.proofs.Span.{plus_scaled-vector, one_times, combination-vector, combination-plus, combination-zeros, zeros_plus, zeros-elements}
-use Rattle.linear_algebra.proofs.Solve.{more_are_dependent}
-use Rattle.linear_algebra.proofs.Decide.{zeros_of_dots}
-use Rattle.linear_algebra.proofs.Dimension.{no_nonzero}
-use Rattle.linear_algebra.proofs.Betti.{plus_zeros}
+use Rattle.linear_laws.specs.Vectors.{plus_scaled, combination, IsVector, IsMatrix}
+use Rattle.linear_laws.proofs.Span.{plus_scaled-vector, one_times, combination-vector, combination-plus, combination-zeros, zeros_plus, zeros-elements}
+use Rattle.linear_laws.proofs.Solve.{more_are_dependent}
+use Rattle.linear_laws.proofs.Decide.{zeros_of_dots}
+use Rattle.linear_laws.proofs.Dimension.{no_nonzero}
+use Rattle.linear_laws.proofs.Betti.{plus_zeros}
 use Rattle.std.proofs.lemmas.List.{length-replicate}
 use native.Mathlib.Decide.{dec_lt}
 use Prim.{yes, no}

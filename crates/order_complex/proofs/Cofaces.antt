@@ -7,7 +7,7 @@ use Rattle.std.proofs.lemmas.Bool.{eqb-true}
 use Rattle.std.proofs.lemmas.List.{length-map, get_or-map, take_more}
 use Rattle.small_field.specs.Field.{Ops, IsField}
 use Rattle.small_field.proofs.Laws.{zero_below, add_zero, zero_mul, neg_mul, neg_zero, neg_neg}
-use Rattle.linear_algebra.specs.Vectors.{dot, AreElements}
+use Rattle.linear_laws.specs.Vectors.{dot, AreElements}
 use Rattle.face_poset.specs.Words.{upto, holds}
 use Rattle.face_poset.specs.Poset.{layer, count, facets_of, cells_with, cofaces_of}
 use Rattle.face_poset.proofs.Members.{differ, Contains-from_holds}

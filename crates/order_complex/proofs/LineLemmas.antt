@@ -8,8 +8,8 @@ use Rattle.std.proofs.lemmas.List.{length-map}
 use Rattle.std.proofs.lemmas.List.Elements.{All-head, All-tail}
 use Rattle.small_field.specs.Field.{Ops, IsField}
 use Rattle.small_field.proofs.Laws.{zero_below}
-use Rattle.linear_algebra.specs.Marks.{mark}
-use Rattle.linear_algebra.specs.Vectors.{combination, plus_scaled, IsVector, AreElements}
+use Rattle.linear_laws.specs.Marks.{mark}
+use Rattle.linear_laws.specs.Vectors.{combination, plus_scaled, IsVector, AreElements}
 use Rattle.face_poset.specs.Words.{upto}
 use Rattle.face_poset.proofs.Members.{differ, length-upto}
 use Rattle.order_complex.specs.Chains.{chains_of}

@@ -3,8 +3,8 @@ use Rattle.std.proofs.Common.{◌≡◌, ℕ, zero, suc, ◌<◌, List, [], ◌�
 use Rattle.std.specs.Str.{bytes_eq}
 use Rattle.small_field.specs.Field.{Ops, IsField}
 use Rattle.small_field.proofs.Laws.{zero_below, add_swap, neg_add, neg_zero, mul_zero, mul_neg}
-use Rattle.linear_algebra.specs.Vectors.{plus_scaled, AreElements}
-use Rattle.linear_algebra.specs.Linear.{IsLinear}
+use Rattle.linear_laws.specs.Vectors.{plus_scaled, AreElements}
+use Rattle.linear_laws.specs.Linear.{IsLinear}
 use Rattle.order_complex.specs.Cochains.{alternating, leave_out, value, coboundary_at}
 
 module _ (F : Ops) (L : IsField F) where

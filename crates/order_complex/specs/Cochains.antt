@@ -3,7 +3,7 @@
 use Rattle.std.specs.Prelude.{ℕ, suc, List, [], ◌∷◌, map, length, cond, replicate}
 use Rattle.std.specs.Str.{bytes_eq}
 use Rattle.small_field.specs.Field.{Ops}
-use Rattle.linear_algebra.specs.Vectors.{IsVector, dot}
+use Rattle.linear_laws.specs.Vectors.{IsVector, dot}
 use Rattle.order_complex.specs.Chains.{chains_of}
 
 -- a chain with one entry left out, the first entry first

@@ -1,7 +1,7 @@
 -- The laws of the order complex. `F` is the arithmetic of a field.
 use Rattle.std.specs.Prelude.{◌≡◌, ℕ, suc, ◌+◌, List, length}
 use Rattle.small_field.specs.Field.{Ops}
-use Rattle.linear_algebra.specs.Echelon.{IsReducedTo}
+use Rattle.linear_laws.specs.Echelon.{IsReducedTo}
 use Rattle.order_complex.specs.Chains.{chains_of}
 use Rattle.order_complex.specs.Cochains.{IsCochain, zeros, coboundary, boundary, evaluation}
 use Rattle.order_complex.specs.Homology.{IsBetti}

@@ -6,8 +6,8 @@ use Rattle.std.specs.List.{list_all}
 use Rattle.std.specs.Str.{bytes_eq}
 use Rattle.small_field.specs.Field.{Ops}
 use Rattle.small_field.specs.Sparse.{IsSparse}
-use Rattle.linear_algebra.specs.Marks.{mark}
-use Rattle.linear_algebra.specs.Vectors.{combination, plus_scaled}
+use Rattle.linear_laws.specs.Marks.{mark}
+use Rattle.linear_laws.specs.Vectors.{combination, plus_scaled}
 use Rattle.face_poset.specs.Words.{upto}
 use Rattle.order_complex.specs.Chains.{chains_of}
 use Rattle.order_complex.specs.Cochains.{coboundary_on, boundary_on, evaluation}

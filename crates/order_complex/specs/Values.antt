@@ -1,7 +1,7 @@
 -- Cochains as the code keeps them.
 use Rattle.std.specs.Prelude.{ℕ, ◌+◌, ◌<◌, ◌^◌, ◌==◌, List, [], ◌∷◌, ◌++◌, cond, length}
 use Rattle.small_field.specs.Field.{Ops}
-use Rattle.linear_algebra.specs.Vectors.{AreElements}
+use Rattle.linear_laws.specs.Vectors.{AreElements}
 
 -- elements, so many that 32 bits count them
 pub record AreValues (F : Ops) (numbers : List ℕ) : Type 0 where

@@ -1,6 +1,6 @@
 // Cochains, and chains with coefficients.
 ghost use Rattle.std.specs.Prelude.{◌≡◌, ◌≤◌, ◌-◌, ◌<◌, ◌^◌, ◌++◌, All, length, replicate, slice_index, slice_set, IfOk, OnOk};
-ghost use Rattle.linear_algebra.specs.Vectors.{AreElements};
+ghost use Rattle.linear_laws.specs.Vectors.{AreElements};
 ghost use Rattle.order_complex.specs.Values.{entries_from, entry_of};
 
 use small_field::{Entry, Field, Sparse};

@@ -1,9 +1,9 @@
 -- The ranks of two coboundaries that follow one another, and what they leave.
 use Rattle.std.proofs.Common.{◌≡◌, ℕ, zero, suc, ◌+◌, ◌≤◌, List, [], length, refl, sym, ◌∙◌, subst, arith}
 use Rattle.small_field.specs.Field.{Ops, IsField}
-use Rattle.linear_algebra.specs.Vectors.{IsMatrix}
-use Rattle.linear_algebra.specs.Echelon.{IsReducedTo}
-use Rattle.linear_algebra.specs.Laws.{BasisByRanks}
+use Rattle.linear_laws.specs.Vectors.{IsMatrix}
+use Rattle.linear_laws.specs.Echelon.{IsReducedTo}
+use Rattle.linear_laws.specs.Laws.{BasisByRanks}
 use Rattle.order_complex.specs.Chains.{chains_of}
 use Rattle.order_complex.specs.Homology.{IsBetti}
 use Rattle.order_complex.specs.Laws.{BettiByRanks}

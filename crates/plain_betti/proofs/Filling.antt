@@ -1,7 +1,7 @@
 -- A list that is filled from its front.
 use Rattle.std.proofs.Common.{◌≡◌, ℕ, zero, suc, ◌+◌, ◌<◌, ◌≤◌, List, [], ◌∷◌, ◌++◌, map, take, drop, length, set, get_or, refl, ap, ◌∙◌, arith}
 use Rattle.small_field.specs.Field.{Ops}
-use Rattle.linear_algebra.specs.Vectors.{IsMatrix}
+use Rattle.linear_laws.specs.Vectors.{IsMatrix}
 use Rattle.std.proofs.lemmas.List.{append-nil, take_all, drop_all, get_or-set_same, set-set}
 
 -- the values of f on the first j of the xs, and after them what stood there

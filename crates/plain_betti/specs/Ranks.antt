@@ -1,7 +1,7 @@
 -- The rank of a coboundary.
 use Rattle.std.specs.Prelude.{ℕ, List, length}
 use Rattle.small_field.specs.Field.{Ops}
-use Rattle.linear_algebra.specs.Echelon.{IsReducedTo}
+use Rattle.linear_laws.specs.Echelon.{IsReducedTo}
 use Rattle.order_complex.specs.Ranks.{rows_on}
 
 -- the rows of the coboundary from `chains` to `next` have a reduced row echelon form with so many pivots

@@ -2,11 +2,11 @@
 use Rattle.std.proofs.Common.{◌≡◌, ℕ, ◌+◌, ◌*◌, ◌≤◌, List, length, ap, subst, sym, arith}
 use Rattle.std.proofs.Math.Nat.{mul-le-mul_left, mul-le-mul}
 use Rattle.small_field.specs.Field.{Ops}
-use Rattle.linear_algebra.specs.Echelon.{IsReduced, IsReducedTo}
+use Rattle.linear_laws.specs.Echelon.{IsReduced, IsReducedTo}
 use Rattle.field_matrix.proofs.Ranks.{few_pivots}
-use Rattle.critical_laws.specs.declared.kind.Kind.{Kind}
-use Rattle.critical_laws.specs.Kinds.{criticals}
-use Rattle.critical_laws.specs.Solutions.{IsReducedBy}
+use Rattle.split_laws.specs.declared.kind.Kind.{Kind}
+use Rattle.split_laws.specs.Kinds.{criticals}
+use Rattle.split_laws.specs.Solutions.{IsReducedBy}
 use Rattle.critical_complex.specs.Stages.{Stage}
 use Rattle.critical_complex.specs.Splits.{kinds_at, cells_at, rows_at}
 use Rattle.critical_complex.proofs.Placed.{criticals_few}

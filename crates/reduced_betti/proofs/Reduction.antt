@@ -4,24 +4,24 @@ use Rattle.std.specs.List.{AllByRecursion}
 use Rattle.std.proofs.lemmas.List.{length-replicate, get_or-replicate}
 use Rattle.small_field.specs.Field.{Ops, IsField}
 use Rattle.face_poset.specs.declared.cells.Pair.{Pair}
-use Rattle.linear_algebra.specs.Vectors.{combination, entry, IsMatrix}
-use Rattle.linear_algebra.specs.Echelon.{IsReducedTo}
-use Rattle.linear_algebra.specs.Betti.{IsCohomologyBasis}
-use Rattle.linear_algebra.specs.Laws.{BasisByRanks}
-use Rattle.linear_algebra.proofs.Span.{zeros-elements}
+use Rattle.linear_laws.specs.Vectors.{combination, entry, IsMatrix}
+use Rattle.linear_laws.specs.Echelon.{IsReducedTo}
+use Rattle.linear_laws.specs.Betti.{IsCohomologyBasis}
+use Rattle.linear_laws.specs.Laws.{BasisByRanks}
+use Rattle.linear_laws.proofs.Span.{zeros-elements}
 use Rattle.order_complex.specs.Chains.{chains_of}
 use Rattle.order_complex.specs.Complex.{complex_of, negative_in}
 use Rattle.order_complex.specs.Homology.{IsBetti}
 use Rattle.order_complex.specs.Ranks.{rows_of, rows_into}
 use Rattle.order_complex.proofs.Bases.{basis_of, composition_is_zero}
 use Rattle.order_complex.proofs.Cofaces.{count-chains}
-use Rattle.critical_laws.specs.declared.kind.Kind.{Kind}
-use Rattle.critical_laws.specs.declared.kind.Kind.TheVariants.{Critical, Lower, Upper}
-use Rattle.critical_laws.specs.Kinds.{criticals, HasNoUpper, AgreeOnUppers, ZeroOffUppers}
-use Rattle.critical_laws.specs.Split.{IsSplit}
-use Rattle.critical_laws.specs.Solutions.{IsReducedBy}
-use Rattle.critical_laws.specs.Complex.{before, IsSplitComplex, AreReduced}
-use Rattle.critical_laws.specs.Laws.{FieldsSplit, ReducedIsClosed, BettiByReducedRanks}
+use Rattle.split_laws.specs.declared.kind.Kind.{Kind}
+use Rattle.split_laws.specs.declared.kind.Kind.TheVariants.{Critical, Lower, Upper}
+use Rattle.split_laws.specs.Kinds.{criticals, HasNoUpper, AgreeOnUppers, ZeroOffUppers}
+use Rattle.split_laws.specs.Split.{IsSplit}
+use Rattle.split_laws.specs.Solutions.{IsReducedBy}
+use Rattle.split_laws.specs.Complex.{before, IsSplitComplex, AreReduced}
+use Rattle.split_laws.specs.Laws.{FieldsSplit, ReducedIsClosed, BettiByReducedRanks}
 use Rattle.critical_complex.specs.Stages.{Stage, empty_stage}
 use Rattle.critical_complex.specs.Splits.{stage_at, kinds_at, cells_at, rows_at, IsReductionOf, IsSplitting}
 use Rattle.plain_betti.proofs.Heights.{chains_of-four}

@@ -1,9 +1,9 @@
 -- The ranks of reduced coboundaries.
 use Rattle.std.specs.Prelude.{ℕ, ◌+◌, ◌*◌, List}
 use Rattle.small_field.specs.Field.{Ops}
-use Rattle.linear_algebra.specs.Echelon.{IsReducedTo}
-use Rattle.critical_laws.specs.Kinds.{criticals}
-use Rattle.critical_laws.specs.Solutions.{IsReducedBy}
+use Rattle.linear_laws.specs.Echelon.{IsReducedTo}
+use Rattle.split_laws.specs.Kinds.{criticals}
+use Rattle.split_laws.specs.Solutions.{IsReducedBy}
 use Rattle.critical_complex.specs.Stages.{Stage}
 use Rattle.critical_complex.specs.Splits.{kinds_at, cells_at, rows_at}
 use Rattle.reduced_betti.specs.declared.ranks.Ranks.{Ranks}

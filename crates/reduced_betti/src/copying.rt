@@ -1,6 +1,6 @@
 // A copy of a matrix.
 ghost use Rattle.std.specs.Prelude.{◌≡◌, ◌<◌, length, slice_set, IfOk};
-ghost use Rattle.linear_algebra.specs.Vectors.{row_at};
+ghost use Rattle.linear_laws.specs.Vectors.{row_at};
 
 use field_matrix::Matrix;
 use small_field::Field;

@@ -7,13 +7,13 @@ ghost use Rattle.plain_betti.specs.Numbers.{AreBetti, coboundary_entries, is_mod
 
 use crate::ranks::{critical_count, reduced_ranks};
 use critical_complex::Reduced;
-use critical_laws::{betti_by_reduced_ranks, fields_split, reduced_is_closed};
 use face_poset::Space;
 use hap_outside::Steps;
-use linear_algebra::basis_by_ranks;
+use linear_laws::basis_by_ranks;
 use order_complex::{ChainFault, Chains};
 use plain_betti::Betti;
 use small_field::{Field, Gfp};
+use split_laws::{betti_by_reduced_ranks, fields_split, reduced_is_closed};
 use std::alloc::{AllocError, Global};
 use std::sync::ledger::Ledger;
 use vector_field::free_field;

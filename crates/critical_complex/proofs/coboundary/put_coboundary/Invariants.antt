@@ -1,7 +1,7 @@
 use Rattle.std.proofs.Common.{◌≡◌, ◌+◌, ◌<◌, ℕ, [], true, false, length, take, set, get_or}
 use Rattle.face_poset.specs.Words.{holds}
-use Rattle.linear_algebra.specs.Vectors.{combination}
-use Rattle.critical_laws.specs.Kinds.{criticals, part}
+use Rattle.linear_laws.specs.Vectors.{combination}
+use Rattle.split_laws.specs.Kinds.{criticals, part}
 use Rattle.critical_complex.specs.Stages.{place_of}
 use Rattle.critical_complex.proofs.coboundary.put_coboundary.Given as goal
 

@@ -1,6 +1,6 @@
 use Rattle.std.proofs.Common.{◌<◌, ◌≤◌, ℕ, List, [], length, length-set, get_or, get_or-set_other, ap, sym, ◌∙◌, subst, arith}
-use Rattle.linear_algebra.specs.Vectors.{combination, IsMatrix}
-use Rattle.critical_laws.specs.Kinds.{criticals, part}
+use Rattle.linear_laws.specs.Vectors.{combination, IsMatrix}
+use Rattle.split_laws.specs.Kinds.{criticals, part}
 use Rattle.critical_complex.specs.Reaches.{AreIndexes}
 use Rattle.critical_complex.proofs.Filling.{rows_more, rows_final}
 use Rattle.critical_complex.proofs.coboundary.put_rows.Goals as goal

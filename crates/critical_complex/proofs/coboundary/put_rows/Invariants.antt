@@ -1,8 +1,8 @@
 use Rattle.std.proofs.Common.{◌≡◌, ◌<◌, ◌≤◌, ℕ, List, length, replicate}
-use Rattle.linear_algebra.specs.Marks.{mark}
-use Rattle.linear_algebra.specs.Vectors.{combination, row_at}
-use Rattle.critical_laws.specs.Kinds.{criticals, part}
-use Rattle.critical_laws.specs.Solutions.{IsExtension}
+use Rattle.linear_laws.specs.Marks.{mark}
+use Rattle.linear_laws.specs.Vectors.{combination, row_at}
+use Rattle.split_laws.specs.Kinds.{criticals, part}
+use Rattle.split_laws.specs.Solutions.{IsExtension}
 use Rattle.critical_complex.specs.Reaches.{AreIndexes}
 use Rattle.critical_complex.proofs.coboundary.put_rows.Given as goal
 

@@ -1,6 +1,6 @@
 use Rattle.std.proofs.Common.{◌≡◌, take}
-use Rattle.linear_algebra.specs.Vectors.{boundary}
-use Rattle.critical_laws.specs.Kinds.{spread}
+use Rattle.linear_laws.specs.Vectors.{boundary}
+use Rattle.split_laws.specs.Kinds.{spread}
 use Rattle.critical_complex.proofs.flow.boundary_of_spread.Given as goal
 
 abbrev pub invariant-loop-index : goal.invariant-loop-index

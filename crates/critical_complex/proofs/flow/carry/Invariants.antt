@@ -1,6 +1,6 @@
 use Rattle.std.proofs.Common.{◌≡◌, length, drop, replicate}
-use Rattle.linear_algebra.specs.Vectors.{boundary}
-use Rattle.critical_laws.specs.Pairs.{carry}
+use Rattle.linear_laws.specs.Vectors.{boundary}
+use Rattle.split_laws.specs.Pairs.{carry}
 use Rattle.critical_complex.proofs.flow.carry.Given as goal
 
 abbrev pub invariant-loop-index : goal.invariant-loop-index

@@ -1,6 +1,6 @@
 use Rattle.std.proofs.Common.{◌≡◌, ◌+◌, ◌-◌, ◌∙◌, ℕ, length, replicate, ap, arith}
 use Rattle.small_field.specs.Field.{Ops}
-use Rattle.critical_laws.specs.Pairs.{back_correction}
+use Rattle.split_laws.specs.Pairs.{back_correction}
 use Rattle.critical_complex.proofs.Flows.{factor_is, chain_is, boundary_is}
 use Rattle.critical_complex.proofs.flow.carry_pair.Goals as goal
 

@@ -1,5 +1,5 @@
 use Rattle.std.proofs.Common.{◌<◌, ℕ, refl, subst, ◌∙◌}
-use Rattle.critical_laws.specs.Kinds.{criticals}
+use Rattle.split_laws.specs.Kinds.{criticals}
 use Rattle.critical_complex.proofs.Indexed.{columns_more, others_more}
 use Rattle.critical_complex.proofs.indexes.put_columns.Goals as goal
 

@@ -1,6 +1,6 @@
 use Rattle.std.proofs.Common.{◌≡◌, ◌<◌, ℕ, get_or}
-use Rattle.critical_laws.specs.declared.kind.Kind.TheVariants.{Upper}
-use Rattle.critical_laws.specs.Pairs.{kind_at}
+use Rattle.split_laws.specs.declared.kind.Kind.TheVariants.{Upper}
+use Rattle.split_laws.specs.Pairs.{kind_at}
 use Rattle.critical_complex.specs.Stages.{place_of}
 use Rattle.critical_complex.proofs.indexes.put_columns.Given as goal
 

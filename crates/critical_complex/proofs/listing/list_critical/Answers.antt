@@ -1,4 +1,4 @@
-use Rattle.critical_laws.specs.declared.kind.Kind.TheVariants.{Critical}
+use Rattle.split_laws.specs.declared.kind.Kind.TheVariants.{Critical}
 use Rattle.critical_complex.proofs.SignedLemmas.{critical_more}
 use Rattle.critical_complex.proofs.listing.list_critical.Goals as goal
 

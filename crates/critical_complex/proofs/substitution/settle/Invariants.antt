@@ -1,5 +1,5 @@
 use Rattle.std.proofs.Common.{◌≡◌, length, drop}
-use Rattle.critical_laws.specs.Pairs.{settle}
+use Rattle.split_laws.specs.Pairs.{settle}
 use Rattle.critical_complex.proofs.substitution.settle.Given as goal
 
 abbrev pub invariant-loop-pair : goal.invariant-loop-pair

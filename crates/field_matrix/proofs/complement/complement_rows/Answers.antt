@@ -1,7 +1,7 @@
 use Rattle.std.proofs.Common.{◌≡◌, ℕ, ◌+◌, ◌*◌, ◌≤◌, ◌++◌, List, length, take, drop, sym, ap, ◌∙◌, arith, subst}
 use Rattle.std.proofs.lemmas.Grind.{common_steps}
-use Rattle.linear_algebra.specs.Vectors.{IsMatrix}
-use Rattle.linear_algebra.specs.Echelon.{IsReducedTo, IsReducedBelow}
+use Rattle.linear_laws.specs.Vectors.{IsMatrix}
+use Rattle.linear_laws.specs.Echelon.{IsReducedTo, IsReducedBelow}
 use Rattle.field_matrix.specs.Rows.{cut}
 use Rattle.field_matrix.specs.Solutions.{above, IsComplement}
 use Rattle.field_matrix.proofs.Cut.{length-cut, cut-matrix}

@@ -1,7 +1,7 @@
 use Rattle.std.proofs.Common.{◌≡◌, ℕ, ◌-◌, ◌<◌, ◌≤◌, ◌++◌, ◌∷◌, [], List, Option, length, take, get_or, Some, is_some, true, false, refl, ap, sym, ◌∙◌, arith, subst}
 use Rattle.std.specs.Option.{IsSome}
 use Rattle.lane_rows.specs.Lanes.{first_place}
-use Rattle.linear_algebra.specs.Echelon.{IsReducedBelow, is_nonzero}
+use Rattle.linear_laws.specs.Echelon.{IsReducedBelow, is_nonzero}
 use Rattle.field_matrix.specs.Rows.{cut}
 use Rattle.field_matrix.specs.Solutions.{above}
 use Rattle.field_matrix.proofs.Cut.{length-cut}

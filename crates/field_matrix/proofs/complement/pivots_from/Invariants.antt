@@ -1,5 +1,5 @@
 use Rattle.std.proofs.Common.{◌≡◌, ℕ, List, length, take}
-use Rattle.linear_algebra.specs.Echelon.{IsReducedBelow}
+use Rattle.linear_laws.specs.Echelon.{IsReducedBelow}
 use Rattle.field_matrix.specs.Rows.{cut}
 use Rattle.field_matrix.specs.Solutions.{above}
 use Rattle.field_matrix.proofs.complement.pivots_from.Given as goal

@@ -1,5 +1,5 @@
 use Rattle.std.proofs.Common.{◌≡◌, ◌++◌, take}
-use Rattle.linear_algebra.specs.Vectors.{column}
+use Rattle.linear_laws.specs.Vectors.{column}
 use Rattle.field_matrix.specs.Rows.{cut}
 use Rattle.field_matrix.proofs.complement.push_column.Given as goal
 

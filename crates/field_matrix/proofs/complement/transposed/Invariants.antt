@@ -1,5 +1,5 @@
 use Rattle.std.proofs.Common.{◌≡◌, ℕ, ◌+◌, ◌*◌, ◌<◌, ◌++◌, length}
-use Rattle.linear_algebra.specs.Vectors.{column, row_at}
+use Rattle.linear_laws.specs.Vectors.{column, row_at}
 use Rattle.field_matrix.specs.Rows.{cut}
 use Rattle.field_matrix.proofs.complement.transposed.Given as goal
 

@@ -1,5 +1,5 @@
 use Rattle.std.proofs.Common.{◌≡◌, ℕ, List, ◌-◌, sym, ◌∙◌, arith}
-use Rattle.linear_algebra.specs.Vectors.{row_at}
+use Rattle.linear_laws.specs.Vectors.{row_at}
 use Rattle.field_matrix.specs.Rows.{cut}
 use Rattle.field_matrix.proofs.Splits.{IsSplit, split_twice, row_is, row_before, row_after, back_long, row_below, row_long, combined}
 use Rattle.field_matrix.proofs.flat.combine_rows.Goals as goal

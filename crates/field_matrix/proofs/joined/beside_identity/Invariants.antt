@@ -1,5 +1,5 @@
 use Rattle.std.proofs.Common.{◌≡◌, ◌+◌, ◌*◌, length, take}
-use Rattle.linear_algebra.specs.Marks.{identity, beside}
+use Rattle.linear_laws.specs.Marks.{identity, beside}
 use Rattle.field_matrix.specs.Rows.{cut}
 use Rattle.field_matrix.proofs.joined.beside_identity.Given as goal
 

@@ -1,8 +1,8 @@
 use Rattle.std.proofs.Common.{◌≡◌, ℕ, ◌+◌, ◌++◌, List, length, take, ap, sym, ◌∙◌, arith}
 use Rattle.std.proofs.lemmas.List.{take_all, length-map, length-take-le}
-use Rattle.linear_algebra.specs.Marks.{lefts}
-use Rattle.linear_algebra.specs.Vectors.{row_at}
-use Rattle.linear_algebra.proofs.Halves.{row_at-map}
+use Rattle.linear_laws.specs.Marks.{lefts}
+use Rattle.linear_laws.specs.Vectors.{row_at}
+use Rattle.linear_laws.proofs.Halves.{row_at-map}
 use Rattle.field_matrix.specs.Rows.{cut}
 use Rattle.field_matrix.proofs.Cut.{length-cut}
 use Rattle.field_matrix.proofs.Built.{rows_more}

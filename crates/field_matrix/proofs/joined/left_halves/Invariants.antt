@@ -1,5 +1,5 @@
 use Rattle.std.proofs.Common.{◌≡◌, ◌*◌, length, take}
-use Rattle.linear_algebra.specs.Marks.{lefts}
+use Rattle.linear_laws.specs.Marks.{lefts}
 use Rattle.field_matrix.specs.Rows.{cut}
 use Rattle.field_matrix.proofs.joined.left_halves.Given as goal
 

@@ -1,5 +1,5 @@
 use Rattle.std.proofs.Common.{◌≡◌, ◌++◌, take}
-use Rattle.linear_algebra.specs.Marks.{mark}
+use Rattle.linear_laws.specs.Marks.{mark}
 use Rattle.field_matrix.proofs.joined.push_beside.Given as goal
 
 abbrev pub invariant-loop-at : goal.invariant-loop-at

@@ -1,7 +1,7 @@
 use Rattle.std.proofs.Common.{◌≡◌, ℕ, ◌+◌, ◌-◌, ◌*◌, ◌++◌, List, length, length-drop, take, drop, ap, sym, ◌∙◌, arith}
 use Rattle.std.proofs.lemmas.List.{take_all, take_rest, length-map}
-use Rattle.linear_algebra.specs.Marks.{rights}
-use Rattle.linear_algebra.specs.Vectors.{row_at}
+use Rattle.linear_laws.specs.Marks.{rights}
+use Rattle.linear_laws.specs.Vectors.{row_at}
 use Rattle.field_matrix.specs.Rows.{cut}
 use Rattle.field_matrix.proofs.Cut.{length-cut}
 use Rattle.field_matrix.proofs.Built.{rows_more, half_row}

@@ -1,5 +1,5 @@
 use Rattle.std.proofs.Common.{◌≡◌, ◌≤◌, ◌-◌, ◌*◌, length, take, drop}
-use Rattle.linear_algebra.specs.Marks.{rights}
+use Rattle.linear_laws.specs.Marks.{rights}
 use Rattle.field_matrix.specs.Rows.{cut}
 use Rattle.field_matrix.proofs.joined.right_halves.Given as goal
 

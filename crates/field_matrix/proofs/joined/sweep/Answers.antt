@@ -1,7 +1,7 @@
 use Rattle.std.proofs.Common.{◌≡◌, ℕ, ◌+◌, ◌<◌, List, length, take, get_or, Some, refl, sym, ap, ◌∙◌, arith, subst}
 use Rattle.std.specs.Option.{IsSome}
 use Rattle.lane_rows.specs.Lanes.{first_place}
-use Rattle.linear_algebra.specs.Vectors.{plus_scaled, row_at}
+use Rattle.linear_laws.specs.Vectors.{plus_scaled, row_at}
 use Rattle.field_matrix.specs.Rows.{cut}
 use Rattle.field_matrix.proofs.Cut.{length-cut}
 use Rattle.field_matrix.proofs.Sweep.{Swept, within, place_is, swept_none, swept_more}

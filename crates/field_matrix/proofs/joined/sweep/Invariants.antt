@@ -1,4 +1,4 @@
-use Rattle.linear_algebra.specs.Vectors.{IsVector}
+use Rattle.linear_laws.specs.Vectors.{IsVector}
 use Rattle.field_matrix.specs.Rows.{cut}
 use Rattle.field_matrix.specs.Steps.{IsSwept, IsClearAt}
 use Rattle.field_matrix.proofs.joined.sweep.Given as goal

@@ -1,5 +1,5 @@
 use Rattle.std.proofs.Common.{◌≡◌, ◌≢◌, ℕ, ◌<◌, List, length, sym, ap, ◌∙◌, arith, subst}
-use Rattle.linear_algebra.specs.Vectors.{entry}
+use Rattle.linear_laws.specs.Vectors.{entry}
 use Rattle.field_matrix.specs.Rows.{cut}
 use Rattle.field_matrix.specs.Steps.{IsBroughtUp}
 use Rattle.field_matrix.proofs.Cut.{length-cut}

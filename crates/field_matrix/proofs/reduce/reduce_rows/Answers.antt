@@ -1,5 +1,5 @@
 use Rattle.std.proofs.Common.{◌≡◌, ℕ, ◌+◌, ◌*◌, ◌<◌, ◌≤◌, List, length, arith, sym, subst}
-use Rattle.linear_algebra.specs.Echelon.{IsReducedTo}
+use Rattle.linear_laws.specs.Echelon.{IsReducedTo}
 use Rattle.field_matrix.specs.Rows.{cut}
 use Rattle.field_matrix.specs.Steps.{IsCleared}
 use Rattle.field_matrix.proofs.Cut.{length-cut}

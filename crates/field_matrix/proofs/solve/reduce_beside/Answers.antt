@@ -1,7 +1,7 @@
 use Rattle.std.proofs.Common.{ℕ, ◌+◌, List, sym, subst}
-use Rattle.linear_algebra.specs.Vectors.{IsMatrix}
-use Rattle.linear_algebra.proofs.Marks.{beside_matrix, identity_matrix}
-use Rattle.linear_algebra.specs.Marks.{identity}
+use Rattle.linear_laws.specs.Vectors.{IsMatrix}
+use Rattle.linear_laws.proofs.Marks.{beside_matrix, identity_matrix}
+use Rattle.linear_laws.specs.Marks.{identity}
 use Rattle.field_matrix.specs.Rows.{cut}
 use Rattle.field_matrix.proofs.Cut.{cut-matrix}
 use Rattle.field_matrix.proofs.solve.reduce_beside.Goals as goal

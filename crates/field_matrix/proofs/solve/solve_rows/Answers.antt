@@ -1,7 +1,7 @@
 use Rattle.std.proofs.Common.{◌≡◌, ℕ, ◌+◌, ◌++◌, List, length, map, take, drop, replicate, not, sym, ap, ◌∙◌, subst}
-use Rattle.linear_algebra.specs.Marks.{identity, beside}
-use Rattle.linear_algebra.specs.Vectors.{IsVector, IsMatrix, combination}
-use Rattle.linear_algebra.specs.Echelon.{IsReducedTo, is_nonzero}
+use Rattle.linear_laws.specs.Marks.{identity, beside}
+use Rattle.linear_laws.specs.Vectors.{IsVector, IsMatrix, combination}
+use Rattle.linear_laws.specs.Echelon.{IsReducedTo, is_nonzero}
 use Rattle.field_matrix.specs.Rows.{cut}
 use Rattle.field_matrix.specs.Steps.{IsSwept}
 use Rattle.field_matrix.proofs.Cut.{length-cut, cut-matrix}

@@ -1,6 +1,6 @@
 use Rattle.std.proofs.Common.{◌≡◌, ℕ, ◌+◌, ◌++◌, List, length, map, take, drop, replicate, sym, ◌∙◌, arith, subst}
 use Rattle.std.proofs.lemmas.Grind.{common_steps}
-use Rattle.linear_algebra.specs.Vectors.{IsVector}
+use Rattle.linear_laws.specs.Vectors.{IsVector}
 use Rattle.field_matrix.specs.Rows.{cut}
 use Rattle.field_matrix.specs.Steps.{IsSwept, IsClearAt}
 use Rattle.field_matrix.proofs.Solved.{start_vector}

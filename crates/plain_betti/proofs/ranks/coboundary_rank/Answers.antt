@@ -1,5 +1,5 @@
 use Rattle.std.proofs.Common.{◌+◌}
-use Rattle.linear_algebra.specs.Echelon.{rank_of}
+use Rattle.linear_laws.specs.Echelon.{rank_of}
 use Rattle.order_complex.specs.Chains.{chains_of}
 use Rattle.plain_betti.proofs.Reductions.{is_reduced, is_rank, few_additions}
 use Rattle.plain_betti.proofs.ranks.coboundary_rank.Goals as goal

@@ -1,6 +1,6 @@
 use Rattle.std.proofs.Common.{ℕ, List, length, ap, ◌∙◌, ◌+◌}
-use Rattle.linear_algebra.specs.Echelon.{rank_of}
-use Rattle.critical_laws.specs.Kinds.{criticals}
+use Rattle.linear_laws.specs.Echelon.{rank_of}
+use Rattle.split_laws.specs.Kinds.{criticals}
 use Rattle.critical_complex.specs.Splits.{kinds_at}
 use Rattle.reduced_betti.proofs.Bounds.{is_reduced, few_additions, has_rank}
 use Rattle.reduced_betti.proofs.ranks.reduced_rank.Goals as goal

@@ -1,5 +1,5 @@
 use Rattle.std.proofs.Common.{◌≡◌, ◌≤◌, List, ℕ, length, ap, ◌∙◌, arith}
-use Rattle.critical_laws.specs.Kinds.{criticals}
+use Rattle.split_laws.specs.Kinds.{criticals}
 use Rattle.critical_complex.specs.Stages.{Stage}
 use Rattle.critical_complex.proofs.Placed.{critical_long, criticals_few}
 use Rattle.critical_complex.proofs.stage.Stage.criticals.Goals as goal

@@ -1,6 +1,6 @@
 use Rattle.std.proofs.Common.{◌≡◌, ◌<◌, ℕ, List, length, length-set, refl, ap, sym, ◌∙◌, subst, arith}
-use Rattle.critical_laws.specs.Kinds.{criticals, part}
-use Rattle.critical_laws.specs.Solutions.{without}
+use Rattle.split_laws.specs.Kinds.{criticals, part}
+use Rattle.split_laws.specs.Solutions.{without}
 use Rattle.critical_complex.proofs.Placed.{same_list}
 use Rattle.critical_complex.proofs.Filling.{rest_value, entries_more, rest_long}
 use Rattle.critical_complex.proofs.stage.Stage.rest.Goals as goal

@@ -1,6 +1,6 @@
 use Rattle.std.proofs.Common.{◌≡◌, ◌<◌, ℕ, length, get_or}
-use Rattle.critical_laws.specs.Kinds.{part}
-use Rattle.critical_laws.specs.Solutions.{without}
+use Rattle.split_laws.specs.Kinds.{part}
+use Rattle.split_laws.specs.Solutions.{without}
 use Rattle.critical_complex.proofs.stage.Stage.rest.Given as goal
 
 abbrev pub invariant-loop-index : goal.invariant-loop-index

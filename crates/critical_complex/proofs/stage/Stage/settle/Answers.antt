@@ -1,6 +1,6 @@
 use Rattle.std.proofs.Common.{◌<◌, ℕ, List, ap, sym, ◌∙◌, subst}
 use Rattle.std.specs.List.{AllByRecursion}
-use Rattle.critical_laws.specs.declared.matching.Match.{Match}
+use Rattle.split_laws.specs.declared.matching.Match.{Match}
 use Rattle.critical_complex.specs.Stages.{Stage}
 use Rattle.critical_complex.proofs.stage.Stage.settle.Goals as goal
 

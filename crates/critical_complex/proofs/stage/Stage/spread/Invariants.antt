@@ -1,5 +1,5 @@
 use Rattle.std.proofs.Common.{◌≡◌, take}
-use Rattle.critical_laws.specs.Kinds.{spread}
+use Rattle.split_laws.specs.Kinds.{spread}
 use Rattle.critical_complex.proofs.stage.Stage.spread.Given as goal
 
 abbrev pub invariant-loop-index : goal.invariant-loop-index

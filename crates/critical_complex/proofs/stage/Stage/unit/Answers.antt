@@ -1,5 +1,5 @@
 use Rattle.std.proofs.Common.{◌≡◌, ◌+◌, ◌<◌, ◌≤◌, ℕ, List, [], ◌∷◌, ◌++◌, length, get_or, ap, ◌∙◌, arith}
-use Rattle.critical_laws.specs.declared.matching.Match.{Match}
+use Rattle.split_laws.specs.declared.matching.Match.{Match}
 use Rattle.critical_complex.specs.Stages.{Stage}
 use Rattle.critical_complex.specs.Units.{pair_at}
 use Rattle.critical_complex.proofs.Filling.{pair_small}

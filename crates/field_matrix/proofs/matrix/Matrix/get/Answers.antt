@@ -1,5 +1,5 @@
 use Rattle.std.proofs.Common.{◌<◌, ℕ, List, subst, sym, ap, ◌∙◌}
-use Rattle.linear_algebra.specs.Vectors.{entry}
+use Rattle.linear_laws.specs.Vectors.{entry}
 use Rattle.field_matrix.specs.Rows.{cut}
 use Rattle.field_matrix.proofs.Views.{row_within, entry_small}
 use Rattle.field_matrix.proofs.matrix.Matrix.get.Goals as goal

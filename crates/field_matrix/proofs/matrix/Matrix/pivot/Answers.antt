@@ -1,8 +1,8 @@
 use Rattle.std.proofs.Common.{◌≡◌, ℕ, ◌<◌, ◌≤◌, List, length, get_or, Some, refl, sym, ap, ◌∙◌, arith, subst}
 use Rattle.std.specs.Option.{IsSome}
 use Rattle.lane_rows.specs.Lanes.{first_place}
-use Rattle.linear_algebra.specs.Vectors.{IsMatrix, row_at}
-use Rattle.linear_algebra.specs.Echelon.{IsReducedBelow, IsReduced, rank_of}
+use Rattle.linear_laws.specs.Vectors.{IsMatrix, row_at}
+use Rattle.linear_laws.specs.Echelon.{IsReducedBelow, IsReduced, rank_of}
 use Rattle.field_matrix.specs.Rows.{cut, Rows}
 use Rattle.field_matrix.proofs.Cut.{cut-matrix, length-cut}
 use Rattle.field_matrix.proofs.Splits.{row_long}

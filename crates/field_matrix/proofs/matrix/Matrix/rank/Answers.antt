@@ -1,8 +1,8 @@
 use Rattle.std.proofs.Common.{◌≡◌, ℕ, ◌+◌, ◌<◌, List, length, take, true, false, cond, is_some, sym, ap, ◌∙◌, arith, subst}
 use Rattle.std.proofs.lemmas.List.{take_all}
 use Rattle.lane_rows.specs.Lanes.{first_place}
-use Rattle.linear_algebra.specs.Vectors.{IsMatrix, IsBasis, row_at}
-use Rattle.linear_algebra.specs.Echelon.{IsReducedBelow, IsReduced, is_nonzero, rank_of}
+use Rattle.linear_laws.specs.Vectors.{IsMatrix, IsBasis, row_at}
+use Rattle.linear_laws.specs.Echelon.{IsReducedBelow, IsReduced, is_nonzero, rank_of}
 use Rattle.field_matrix.specs.Rows.{cut, Rows}
 use Rattle.field_matrix.proofs.Cut.{cut-matrix, length-cut}
 use Rattle.field_matrix.proofs.Splits.{row_long}

@@ -1,5 +1,5 @@
 use Rattle.std.proofs.Common.{◌≡◌, ◌≤◌, take}
-use Rattle.linear_algebra.specs.Echelon.{rank_of}
+use Rattle.linear_laws.specs.Echelon.{rank_of}
 use Rattle.field_matrix.specs.Rows.{cut}
 use Rattle.field_matrix.proofs.matrix.Matrix.rank.Given as goal
 

@@ -1,7 +1,7 @@
 use Rattle.std.proofs.Common.{◌≡◌, ℕ, ◌++◌, ◌+◌, ◌*◌, ◌≤◌, List, length, take, drop, sym, ap, ◌∙◌, arith, subst}
 use Rattle.std.proofs.lemmas.Grind.{common_steps}
-use Rattle.linear_algebra.specs.Vectors.{IsMatrix}
-use Rattle.linear_algebra.specs.Echelon.{IsReducedTo, rank_of}
+use Rattle.linear_laws.specs.Vectors.{IsMatrix}
+use Rattle.linear_laws.specs.Echelon.{IsReducedTo, rank_of}
 use Rattle.field_matrix.specs.Rows.{cut, IsFilled, Rows}
 use Rattle.field_matrix.proofs.Cut.{cut-matrix, cut-elements}
 use Rattle.field_matrix.proofs.Ranks.{reduced_to_rank}

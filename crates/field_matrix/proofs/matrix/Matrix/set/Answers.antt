@@ -1,7 +1,7 @@
 use Rattle.std.proofs.Common.{◌≡◌, ℕ, ◌++◌, ◌*◌, ◌<◌, List, length, length-set, set, take, drop, sym, ap, ◌∙◌, arith, subst}
 use Rattle.std.proofs.lemmas.Grind.{common_steps}
-use Rattle.linear_algebra.specs.Vectors.{IsVector, IsMatrix, row_at}
-use Rattle.linear_algebra.proofs.Span.{all_set}
+use Rattle.linear_laws.specs.Vectors.{IsVector, IsMatrix, row_at}
+use Rattle.linear_laws.proofs.Span.{all_set}
 use Rattle.field_matrix.specs.Rows.{cut, IsFilled}
 use Rattle.field_matrix.proofs.Cut.{cut-matrix, cut-elements}
 use Rattle.field_matrix.proofs.Splits.{row_vector}

@@ -1,5 +1,0 @@
-use Rattle.critical_laws.proofs.Bases.{bases_extend}
-use Rattle.critical_laws.proofs.bases_extend.Goals as goal
-
-pub returns : goal.returns
-returns g c = bases_extend g.F.Field.ops g.met.F.Field.laws

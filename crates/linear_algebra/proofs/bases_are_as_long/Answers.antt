@@ -1,5 +1,0 @@
-use Rattle.linear_algebra.proofs.Laws.{bases_are_as_long}
-use Rattle.linear_algebra.proofs.bases_are_as_long.Goals as goal
-
-pub returns : goal.returns
-returns g c = bases_are_as_long g.F.Field.ops g.met.F.Field.laws

@@ -1,5 +1,0 @@
-use Rattle.linear_algebra.proofs.Betti.{basis_by_ranks}
-use Rattle.linear_algebra.proofs.basis_by_ranks.Goals as goal
-
-pub returns : goal.returns
-returns g c = basis_by_ranks g.F.Field.ops g.met.F.Field.laws

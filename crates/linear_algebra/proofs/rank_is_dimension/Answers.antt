@@ -1,5 +1,0 @@
-use Rattle.linear_algebra.proofs.Laws.{rank_of_basis}
-use Rattle.linear_algebra.proofs.rank_is_dimension.Goals as goal
-
-pub returns : goal.returns
-returns g c = rank_of_basis g.F.Field.ops g.met.F.Field.laws

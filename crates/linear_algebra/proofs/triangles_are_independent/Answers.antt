@@ -1,5 +1,0 @@
-use Rattle.linear_algebra.proofs.Triangles.{triangle_independent}
-use Rattle.linear_algebra.proofs.triangles_are_independent.Goals as goal
-
-pub returns : goal.returns
-returns g c = triangle_independent g.F.Field.ops g.met.F.Field.laws

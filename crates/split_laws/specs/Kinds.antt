@@ -1,0 +1,81 @@
+-- A split sorts the cells of each degree into critical ones, lowers and uppers. (Discrete Morse theory; R. Forman.)
+use Rattle.std.specs.Prelude.{◌≡◌, ⊤, ℕ, suc, List, [], ◌∷◌}
+pub use Rattle.split_laws.specs.declared.kind.Kind.{Kind}
+pub use Rattle.split_laws.specs.declared.kind.Kind.TheVariants.{Critical, Lower, Upper}
+
+-- how many critical cells there are
+abbrev pub criticals : List Kind → ℕ
+criticals [] = 0
+criticals (Critical ∷ ts) = suc (criticals ts)
+criticals (Lower ∷ ts) = criticals ts
+criticals (Upper ∷ ts) = criticals ts
+
+-- the values on critical cells, in their order
+abbrev pub part : List Kind → List ℕ → List ℕ
+part [] xs = []
+part (t ∷ ts) [] = []
+part (Critical ∷ ts) (x ∷ xs) = x ∷ part ts xs
+part (Lower ∷ ts) (x ∷ xs) = part ts xs
+part (Upper ∷ ts) (x ∷ xs) = part ts xs
+
+-- a value for each cell, zero on uppers; and zero on lowers
+abbrev pub ZeroOnUppers : List Kind → List ℕ → Type 0
+ZeroOnUppers [] xs = xs ≡ []
+ZeroOnUppers (t ∷ ts) [] = ⊥
+ZeroOnUppers (Critical ∷ ts) (x ∷ xs) = ZeroOnUppers ts xs
+ZeroOnUppers (Lower ∷ ts) (x ∷ xs) = ZeroOnUppers ts xs
+ZeroOnUppers (Upper ∷ ts) (x ∷ xs) = (x ≡ 0) × ZeroOnUppers ts xs
+
+abbrev pub ZeroOnLowers : List Kind → List ℕ → Type 0
+ZeroOnLowers [] xs = xs ≡ []
+ZeroOnLowers (t ∷ ts) [] = ⊥
+ZeroOnLowers (Critical ∷ ts) (x ∷ xs) = ZeroOnLowers ts xs
+ZeroOnLowers (Lower ∷ ts) (x ∷ xs) = (x ≡ 0) × ZeroOnLowers ts xs
+ZeroOnLowers (Upper ∷ ts) (x ∷ xs) = ZeroOnLowers ts xs
+
+-- a value for each cell, zero but on lowers; and zero but on uppers
+abbrev pub ZeroOffLowers : List Kind → List ℕ → Type 0
+ZeroOffLowers [] xs = xs ≡ []
+ZeroOffLowers (t ∷ ts) [] = ⊥
+ZeroOffLowers (Critical ∷ ts) (x ∷ xs) = (x ≡ 0) × ZeroOffLowers ts xs
+ZeroOffLowers (Lower ∷ ts) (x ∷ xs) = ZeroOffLowers ts xs
+ZeroOffLowers (Upper ∷ ts) (x ∷ xs) = (x ≡ 0) × ZeroOffLowers ts xs
+
+abbrev pub ZeroOffUppers : List Kind → List ℕ → Type 0
+ZeroOffUppers [] xs = xs ≡ []
+ZeroOffUppers (t ∷ ts) [] = ⊥
+ZeroOffUppers (Critical ∷ ts) (x ∷ xs) = (x ≡ 0) × ZeroOffUppers ts xs
+ZeroOffUppers (Lower ∷ ts) (x ∷ xs) = (x ≡ 0) × ZeroOffUppers ts xs
+ZeroOffUppers (Upper ∷ ts) (x ∷ xs) = ZeroOffUppers ts xs
+
+-- equal on lowers; and on uppers
+abbrev pub AgreeOnLowers : List Kind → List ℕ → List ℕ → Type 0
+AgreeOnLowers [] xs ys = ⊤
+AgreeOnLowers (t ∷ ts) [] ys = ⊥
+AgreeOnLowers (t ∷ ts) (x ∷ xs) [] = ⊥
+AgreeOnLowers (Critical ∷ ts) (x ∷ xs) (y ∷ ys) = AgreeOnLowers ts xs ys
+AgreeOnLowers (Lower ∷ ts) (x ∷ xs) (y ∷ ys) = (x ≡ y) × AgreeOnLowers ts xs ys
+AgreeOnLowers (Upper ∷ ts) (x ∷ xs) (y ∷ ys) = AgreeOnLowers ts xs ys
+
+abbrev pub AgreeOnUppers : List Kind → List ℕ → List ℕ → Type 0
+AgreeOnUppers [] xs ys = ⊤
+AgreeOnUppers (t ∷ ts) [] ys = ⊥
+AgreeOnUppers (t ∷ ts) (x ∷ xs) [] = ⊥
+AgreeOnUppers (Critical ∷ ts) (x ∷ xs) (y ∷ ys) = AgreeOnUppers ts xs ys
+AgreeOnUppers (Lower ∷ ts) (x ∷ xs) (y ∷ ys) = AgreeOnUppers ts xs ys
+AgreeOnUppers (Upper ∷ ts) (x ∷ xs) (y ∷ ys) = (x ≡ y) × AgreeOnUppers ts xs ys
+
+-- values for critical cells, and zero elsewhere
+abbrev pub spread : List Kind → List ℕ → List ℕ
+spread [] w = []
+spread (Critical ∷ ts) [] = 0 ∷ spread ts []
+spread (Critical ∷ ts) (x ∷ w) = x ∷ spread ts w
+spread (Lower ∷ ts) w = 0 ∷ spread ts w
+spread (Upper ∷ ts) w = 0 ∷ spread ts w
+
+-- no cell is an upper
+abbrev pub HasNoUpper : List Kind → Type 0
+HasNoUpper [] = ⊤
+HasNoUpper (Critical ∷ ts) = HasNoUpper ts
+HasNoUpper (Lower ∷ ts) = HasNoUpper ts
+HasNoUpper (Upper ∷ ts) = ⊥
