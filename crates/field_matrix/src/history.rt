@@ -9,10 +9,10 @@ use crate::flat::Shape;
 use crate::joined::{beside_identity, left_halves, right_halves};
 use crate::matrix::Matrix;
 use crate::reduce::reduce_rows;
-use hap_outside::Steps;
 use small_field::Field;
 use std::alloc::{AllocError, Global};
 use std::sync::ledger::Ledger;
+use step_count::Steps;
 
 /// A reduced row echelon form of a matrix, and how it came about.
 #[derive(Drop)]

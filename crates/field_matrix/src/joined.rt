@@ -9,11 +9,11 @@ ghost use Rattle.field_matrix.specs.Steps.{IsReducedBy, IsSwept, IsClearAt};
 
 use crate::flat::{Shape, row_of};
 use crate::reduce::reduce_rows;
-use hap_outside::Steps;
 use small_field::Field;
 use std::alloc::{AllocError, Global};
 use std::marker::Brand;
 use std::sync::ledger::{Blank, Ledger};
+use step_count::Steps;
 
 /// 1 at the place, and 0 elsewhere.
 fn indicator(at: usize, place: usize) -> u8

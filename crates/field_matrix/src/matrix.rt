@@ -8,11 +8,11 @@ ghost use Rattle.field_matrix.specs.Rows.{cut, IsFilled};
 
 use crate::flat::{Shape, entry_of, row_of, set_entry};
 use crate::reduce::reduce_rows;
-use hap_outside::Steps;
 use small_field::Field;
 use std::alloc::{AllocError, Global};
 use std::marker::{Model, PhantomData};
 use std::sync::ledger::Ledger;
+use step_count::Steps;
 
 /// Rows of elements of a field, all of one length. Rows and columns count from 0.
 ///

@@ -7,9 +7,9 @@ ghost use Rattle.field_matrix.specs.Rows.{cut};
 ghost use Rattle.field_matrix.specs.Steps.{IsCleared, IsPivotRow, IsBroughtUp, ZeroBelow};
 
 use crate::flat::{Shape, combine_rows, entry_of, scale_row};
-use hap_outside::Steps;
 use small_field::Field;
 use std::sync::ledger::Ledger;
+use step_count::Steps;
 
 /// One row addition, which is counted: adds factor times the row `from` to the row `to`.
 fn add_row<F: Field, L: Ledger>(

@@ -1,8 +1,8 @@
 ghost use Rattle.std.specs.Prelude.{◌≡◌, ◌<◌, IfOk, length};
 ghost use Rattle.linear_laws.specs.Echelon.{IsReduced};
 
+use step_count::Steps;
 use super::*;
-use hap_outside::Steps;
 use small_field::{Field, Gfp};
 use std::alloc::{AllocError, Global};
 use std::marker::Brand;

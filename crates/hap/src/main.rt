@@ -5,13 +5,14 @@
 ghost use Rattle.std.specs.Prelude.{◌≡◌, ◌<◌};
 
 use hap_cli::{Outcome, end_with, run};
-use hap_outside::{HostSink, HostSource, Steps};
+use hap_outside::{HostSink, HostSource};
 use std::alloc::AllocError;
 use std::env;
 use std::io::ErrorKind;
 use std::marker::Brand;
 use std::process::ExitCode;
 use std::sync::ledger::{Blank, Ledger};
+use step_count::Steps;
 
 // Runs over the source and the sinks of the host, with a counter that nothing reads.
 fn run_here<L: Ledger>(rt: HostRuntime, words: &[String], blank: Blank) -> u8

@@ -12,11 +12,12 @@ ghost use Rattle.hap_cli.specs.Outcomes.{Fails};
 
 use crate::outcome::Outcome;
 use face_poset::Space;
-use hap_outside::{Failed, Piece, Sink, Steps, write_pieces};
+use hap_outside::{Failed, Piece, Sink, write_pieces};
 use plain_betti::Betti;
 use reduced_betti::betti_of;
 use std::alloc::Global;
 use std::sync::ledger::Ledger;
+use step_count::Steps;
 
 /// How many chains the order complex may have.
 pub const MOST_CHAINS: u32 = 700_000;

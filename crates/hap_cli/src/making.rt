@@ -16,12 +16,13 @@ use crate::cells::write_cells;
 use crate::outcome::{Outcome, written};
 use array_readers::torus;
 use face_poset::Space;
-use hap_outside::{Failed, Piece, Sink, Steps, write_pieces};
+use hap_outside::{Failed, Piece, Sink, write_pieces};
 use order_complex::Chains;
 use plain_betti::Betti;
 use reduced_betti::betti_modulo;
 use std::alloc::Global;
 use std::sync::ledger::Ledger;
+use step_count::Steps;
 
 /// The chains of the space, or how the run ends where there are too many.
 fn few_chains<'a>(alloc: Global, space: &'a Space) -> Result<Chains<'a>, Outcome>

@@ -17,11 +17,12 @@ use crate::cells::{write_cells, write_check};
 use crate::making::run_make;
 use crate::outcome::{Outcome, end_with, written};
 use crate::space::{read_space, regular_space};
-use hap_outside::{Sink, Source, Steps};
+use hap_outside::{Sink, Source};
 use hap_words::{Command, Input, WordsFault, read};
 use std::alloc::Global;
 use std::mem::drop;
 use std::sync::ledger::Ledger;
+use step_count::Steps;
 
 // Reads a space and writes how many cells it has.
 fn run_cells<S: Source, K: Sink>(

@@ -1,4 +1,4 @@
-//! What a program meets outside itself: a source of bytes, sinks of bytes, and a count of steps.
+//! What a program meets outside itself: a source of bytes, and sinks of bytes.
 //!
 //! A [`Source`] and a [`Sink`] are known by what they mean: the bytes that they have and took, where
 //! these are told, and a count of the calls that failed. A call answers a fault only where that count
@@ -15,7 +15,6 @@ mod pieces;
 mod sink;
 mod source;
 mod steady;
-mod steps;
 
 pub use bytes::Bytes;
 pub use host::{HostSink, HostSource};
@@ -24,7 +23,6 @@ pub use pieces::{Piece, write_pieces};
 pub use sink::{Sink, write_all, write_number};
 pub use source::{Failed, ReadAll, Source, read_all};
 pub use steady::Steady;
-pub use steps::Steps;
 
 #[cfg(test)]
 mod tests;

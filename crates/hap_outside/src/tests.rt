@@ -1,10 +1,6 @@
-ghost use Rattle.std.specs.Prelude.{◌≡◌, ◌<◌};
-
 use super::*;
 use std::fs;
 use std::io::Cursor;
-use std::marker::Brand;
-use std::sync::ledger::{Blank, Ledger};
 use std::test::Fail;
 
 // The trusted edge: what was written to a file is what is read from it.
@@ -78,20 +74,4 @@ fn paper_takes_what_fits_and_listed_writes_fail(rt: HostRuntime) -> Result<(), F
     assert_eq!(rt; paper.bytes(), b"-17 of 23-45".as_slice());
     assert_eq!(rt; write_all(&mut Tally::new(), b"any"), Ok(()));
     Ok(())
-}
-
-// Counts two steps on a ledger of its own.
-fn count_two<L: Ledger>(blank: Blank)
-    requires name { blank.name ≡ L.name }
-    requires parts { blank.parts ≡ L.parts }
-    requires some { 0 < L.parts }
-{
-    let mut steps = Steps::<L>::new(blank);
-    steps.tick();
-    steps.tick();
-}
-
-#[test]
-fn steps_are_counted() {
-    count_two::<Brand>(Blank::new(1));
 }

@@ -2,10 +2,11 @@
 ghost use Rattle.std.specs.Prelude.{◌≡◌, ◌<◌, false};
 
 use hap_cli::run;
-use hap_outside::{Bytes, Paper, Steps};
+use hap_outside::{Bytes, Paper};
 use std::alloc::{AllocError, Global};
 use std::marker::Brand;
 use std::sync::ledger::{Blank, Ledger};
+use step_count::Steps;
 
 /// How a run ended, and what it wrote.
 #[derive(Drop)]

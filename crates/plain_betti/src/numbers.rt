@@ -7,12 +7,12 @@ ghost use Rattle.plain_betti.specs.Numbers.{AreBetti, coboundary_entries, is_mod
 
 use crate::ranks::coboundary_rank;
 use face_poset::Space;
-use hap_outside::Steps;
 use linear_laws::basis_by_ranks;
 use order_complex::{ChainFault, Chains, betti_by_ranks};
 use small_field::{Field, Gfp};
 use std::alloc::{AllocError, Global};
 use std::sync::ledger::Ledger;
+use step_count::Steps;
 
 /// The Betti numbers of degrees 0 to 3.
 #[derive(Clone, Copy, PartialEq, Eq, Debug)]

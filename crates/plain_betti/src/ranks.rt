@@ -6,11 +6,11 @@ ghost use Rattle.order_complex.specs.Ranks.{rows_on};
 ghost use Rattle.plain_betti.specs.Ranks.{IsRank};
 
 use field_matrix::Matrix;
-use hap_outside::Steps;
 use order_complex::{Chains, Cochain, chains_are_ordered};
 use small_field::Field;
 use std::alloc::{AllocError, Global};
 use std::sync::ledger::Ledger;
+use step_count::Steps;
 
 /// Puts the coboundary of a cochain of a degree into a row, which is counted from 0.
 fn put_coboundary<F: Field>(

@@ -8,7 +8,6 @@ ghost use Rattle.plain_betti.specs.Numbers.{AreBetti, coboundary_entries, is_mod
 use crate::ranks::{critical_count, reduced_ranks};
 use critical_complex::Reduced;
 use face_poset::Space;
-use hap_outside::Steps;
 use linear_laws::basis_by_ranks;
 use order_complex::{ChainFault, Chains};
 use plain_betti::Betti;
@@ -16,6 +15,7 @@ use small_field::{Field, Gfp};
 use split_laws::{betti_by_reduced_ranks, fields_split, reduced_is_closed};
 use std::alloc::{AllocError, Global};
 use std::sync::ledger::Ledger;
+use step_count::Steps;
 use vector_field::free_field;
 
 /// The number of critical cells of a degree less the ranks of the reduced coboundaries into and out of it.

@@ -6,10 +6,10 @@ ghost use Rattle.reduced_betti.specs.Ranks.{HasRank, AreRanks, critical_entries}
 
 use crate::copying::copied;
 use critical_complex::Reduced;
-use hap_outside::Steps;
 use small_field::Field;
 use std::alloc::{AllocError, Global};
 use std::sync::ledger::Ledger;
+use step_count::Steps;
 
 /// The ranks of the reduced coboundaries out of the degrees 0, 1 and 2.
 #[derive(Clone, Copy)]

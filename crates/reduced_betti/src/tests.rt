@@ -5,12 +5,12 @@ ghost use Rattle.plain_betti.specs.Numbers.{is_modulus};
 use crate::{Betti, betti_of};
 use face_poset::{Space, SpaceFault, from_nest};
 use gap_text::parse;
-use hap_outside::Steps;
 use order_complex::ChainFault;
 use std::alloc::Global;
 use std::marker::Brand;
 use std::sync::ledger::{Blank, Ledger};
 use std::test::Fail;
+use step_count::Steps;
 
 const CIRCLE: &str = "[[[1,0],[1,0]],[[2,1,2],[2,1,2]]]";
 

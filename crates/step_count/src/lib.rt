@@ -1,4 +1,8 @@
-// A count of steps that takes no bytes.
+//! A count of steps that takes no bytes: contracts see it, and nothing reads it when the program runs.
+//!
+//! A call that states how many steps it takes counts them by a [`Steps`], its last argument.
+#![tactic(auto)]
+
 ghost use Rattle.std.specs.Prelude.{◌≡◌, ◌+◌, ◌<◌, ℕ};
 
 use std::marker::Model;
