@@ -19,6 +19,3 @@ mod unit;
 pub use cleared::Cleared;
 pub use reduced::Reduced;
 pub use unit::Unit;
-
-#[cfg(test)]
-mod tests;

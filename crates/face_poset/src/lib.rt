@@ -33,6 +33,3 @@ pub use lists::Lists;
 pub use position::{Position, PositionFault};
 pub use reader::from_nest;
 pub use space::Space;
-
-#[cfg(test)]
-mod tests;

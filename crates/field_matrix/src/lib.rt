@@ -19,6 +19,3 @@ pub use history::Elimination;
 pub use matrix::Matrix;
 pub use places::Places;
 pub use row::Row;
-
-#[cfg(test)]
-mod tests;

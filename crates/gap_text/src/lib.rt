@@ -11,8 +11,6 @@ mod laws;
 mod nest;
 mod reader;
 mod state;
-#[cfg(test)]
-mod tests;
 
 use byte::Class;
 pub use fault::TextFault;

@@ -23,6 +23,3 @@ pub use pieces::{Piece, write_pieces};
 pub use sink::{Sink, write_all, write_number};
 pub use source::{Failed, ReadAll, Source, read_all};
 pub use steady::Steady;
-
-#[cfg(test)]
-mod tests;

@@ -11,6 +11,3 @@ mod texts;
 pub use command::{Command, Input, Kind};
 pub use fault::WordsFault;
 pub use reader::{read, read_any};
-
-#[cfg(test)]
-mod tests;

@@ -116,6 +116,3 @@ pub fn compose8(first: &[u8; 8], second: &[u8; 8]) -> [u8; 8]
     }
     both
 }
-
-#[cfg(test)]
-mod tests;

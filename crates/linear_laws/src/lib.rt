@@ -45,6 +45,3 @@ pub fn basis_by_ranks<F: Field>()
 pub fn triangles_are_independent<F: Field>()
     ensures { TrianglesAreIndependent F.ops }
 {}
-
-#[cfg(test)]
-mod tests;

@@ -10,8 +10,6 @@ mod laws;
 mod layers;
 mod listing;
 mod searching;
-#[cfg(test)]
-mod tests;
 mod uppers;
 mod values;
 

@@ -10,6 +10,3 @@ mod numbers;
 mod ranks;
 
 pub use numbers::{Betti, betti_modulo, betti_numbers, betti_of};
-
-#[cfg(test)]
-mod tests;

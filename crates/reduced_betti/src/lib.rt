@@ -11,6 +11,3 @@ mod ranks;
 
 pub use numbers::{betti_modulo, betti_numbers, betti_of};
 pub use plain_betti::Betti;
-
-#[cfg(test)]
-mod tests;

@@ -20,6 +20,3 @@ pub use cycles::Step;
 pub use fault::RegularFault;
 pub use laws::{cycles_go_round, rounds_reach_what_steps_lead_to, same_component_is_a_path};
 pub use regular::{Regular, check};
-
-#[cfg(test)]
-mod tests;

@@ -19,6 +19,3 @@ pub use sparse::{Entry, Sparse};
 pub fn further_laws<F: Field>()
     ensures { FurtherLaws F.ops }
 {}
-
-#[cfg(test)]
-mod tests;

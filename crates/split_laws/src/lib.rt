@@ -73,6 +73,3 @@ pub fn bases_extend<F: Field>()
 pub fn betti_by_reduced_ranks<F: Field>()
     ensures { BettiByReducedRanks F.ops }
 {}
-
-#[cfg(test)]
-mod tests;

@@ -29,6 +29,3 @@ pub use laws::{
 pub use maximal::is_maximal;
 pub use pair_list::PairList;
 pub use partner::Partner;
-
-#[cfg(test)]
-mod tests;

@@ -1,4 +1,0 @@
-use Rattle.field_matrix.proofs.tests.eliminate.Given as goal
-
-abbrev pub ghosts-eliminate_with : goal.ghosts-eliminate_with
-ghosts-eliminate_with g a = record { name = a.blank.name; parts = a.blank.parts }
