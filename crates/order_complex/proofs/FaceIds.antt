@@ -121,7 +121,7 @@ module _ (space : List (List (List ℕ))) where
   at_id (suc (suc (suc (suc dim)))) n d small low high = absurd (omega arith)
 
   -- a number up to the number of cells is the id of a cell
-  pub record HasId (id : ℕ) : Type 0 where
+  pub record IdOf (id : ℕ) : Type 0 where
     pub dim : ℕ
     pub number : ℕ
     pub small : dim ≤ 3
@@ -129,10 +129,10 @@ module _ (space : List (List (List ℕ))) where
     pub high : number ≤ count space dim
     pub is : id ≡ cells_before space dim + number
 
-  cell_in : (id dim : ℕ) → dim ≤ 3 → cells_before space dim < id → id ≤ cells_before space dim + count space dim → HasId id
+  cell_in : (id dim : ℕ) → dim ≤ 3 → cells_before space dim < id → id ≤ cells_before space dim + count space dim → IdOf id
   cell_in id dim small low high = record { dim = dim; number = id - cells_before space dim; small = small; low = omega arith; high = omega arith; is = omega arith }
 
-  pub cell_with : (id : ℕ) → 1 ≤ id → id ≤ cell_count space → HasId id
+  pub cell_with : (id : ℕ) → 1 ≤ id → id ≤ cell_count space → IdOf id
   cell_with id low high =
       elim (dec_lt (cells_before space 1) id) [
         | no a ↦ cell_in id 0 (lit≤ tt) (omega arith) (omega arith)

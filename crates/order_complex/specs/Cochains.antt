@@ -3,7 +3,7 @@
 use Rattle.std.specs.Prelude.{ℕ, suc, List, [], ◌∷◌, map, length, cond, replicate}
 use Rattle.std.specs.Str.{bytes_eq}
 use Rattle.small_field.specs.Field.{Ops}
-use Rattle.linear_laws.specs.Vectors.{IsVector, dot}
+use Rattle.linear_laws.specs.Vectors.{IsVector, dot, plus_scaled}
 use Rattle.order_complex.specs.Chains.{chains_of}
 
 -- a chain with one entry left out, the first entry first
@@ -33,6 +33,11 @@ coboundary_on F chains next xs = map (coboundary_at F chains xs) next
 -- 1 on one chain and 0 on each other
 abbrev pub mark : (chains : List (List ℕ)) → (chain : List ℕ) → List ℕ
 mark chains chain = map (λ c. cond (bytes_eq c chain) 1 0) chains
+
+-- the first row less the second plus the third and so on, in rows of n coordinates
+abbrev pub alternating_rows : Ops → (n : ℕ) → List (List ℕ) → List ℕ
+alternating_rows F n [] = replicate n 0
+alternating_rows F n (row ∷ rows) = plus_scaled F (F.neg 1) row (alternating_rows F n rows)
 
 -- the value of a cochain on a chain with coefficients: the sum of the products
 abbrev pub evaluation : Ops → List ℕ → List ℕ → ℕ

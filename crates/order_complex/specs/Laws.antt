@@ -1,13 +1,23 @@
 -- The laws of the order complex. `F` is the arithmetic of a field.
-use Rattle.std.specs.Prelude.{◌≡◌, ℕ, suc, ◌+◌, List, length}
+use Rattle.std.specs.Prelude.{◌≡◌, ◌↔◌, ℕ, suc, ◌+◌, ◌-◌, ◌<◌, List, [], length, map, slice_index_or}
+use Rattle.face_poset.specs.declared.cells.Cell.{Cell}
+use Rattle.face_poset.specs.Below.{IsBelow}
+use Rattle.face_poset.specs.Poset.{IsSpace}
 use Rattle.small_field.specs.Field.{Ops}
 use Rattle.linear_laws.specs.Echelon.{IsReducedTo}
-use Rattle.order_complex.specs.Chains.{chains_of}
-use Rattle.order_complex.specs.Cochains.{IsCochain, zeros, coboundary, boundary, evaluation}
+use Rattle.order_complex.specs.Chains.{all_faces, chains_of}
+use Rattle.order_complex.specs.Cochains.{IsCochain, zeros, coboundary, boundary, evaluation, mark, leave_out, alternating_rows}
+use Rattle.order_complex.specs.Complex.{HasId}
 use Rattle.order_complex.specs.Homology.{IsBetti}
 use Rattle.order_complex.specs.Order.{IsOrdered}
 use Rattle.order_complex.specs.Sequences.{Member, IsChain}
 use Rattle.order_complex.specs.Ranks.{rows_of, rows_into}
+
+-- the faces of a cell, by ids, are exactly the cells below it of a smaller dimension
+abbrev pub FacesAreBelow : Type 0
+FacesAreBelow =
+    (space : List (List (List ℕ))) (cell face : Cell) (id face_id : ℕ) → IsSpace space → HasId space cell id → HasId space face face_id
+    → Member face_id (slice_index_or (all_faces space) (id - 1) []) ↔ (IsBelow space cell.dim cell.number face.dim face.number × (face.dim < cell.dim))
 
 -- the chains of a degree stand in lexicographic order, and none stands twice
 abbrev pub ChainsAreOrdered : Type 0
@@ -22,6 +32,17 @@ pub record ChainsAreSequences : Type 0 where
 abbrev pub CoboundariesAreClosed : Ops → Type 0
 CoboundariesAreClosed F =
     (space : List (List (List ℕ))) (degree : ℕ) (x : List ℕ) → coboundary F space (suc degree) (coboundary F space degree x) ≡ zeros space (suc (suc degree))
+
+-- the boundary of one chain is the alternating sum of the chains with one entry left out
+abbrev pub BoundaryAlternates : Ops → Type 0
+BoundaryAlternates F =
+    (space : List (List (List ℕ))) (degree : ℕ) (chain : List ℕ) → Member chain (chains_of space (suc degree))
+    → boundary F space degree (mark (chains_of space (suc degree)) chain) ≡ alternating_rows F (length (chains_of space degree)) (map (mark (chains_of space degree)) (leave_out chain))
+
+-- the boundary of a boundary is zero
+abbrev pub BoundariesAreCycles : Ops → Type 0
+BoundariesAreCycles F =
+    (space : List (List (List ℕ))) (degree : ℕ) (c : List ℕ) → IsCochain F space (suc (suc degree)) c → boundary F space degree (boundary F space (suc degree) c) ≡ zeros space degree
 
 -- the coboundary of x on c is x on the boundary of c
 abbrev pub CoboundaryIsAdjoint : Ops → Type 0

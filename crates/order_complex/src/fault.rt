@@ -13,7 +13,12 @@ pub enum ChainFault {
 }
 
 impl From<AllocError> for ChainFault {
-    fn from(_: AllocError) -> ChainFault {
+    ghost use Rattle.std.specs.Prelude.{◌≡◌};
+    ghost use Rattle.order_complex.specs.declared.fault.ChainFault.TheVariants.{Memory};
+
+    ghost from_gives = { λ _ fault. fault ≡ Memory };
+
+    fn from(_failed: AllocError) -> ChainFault {
         ChainFault::Memory
     }
 }

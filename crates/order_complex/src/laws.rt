@@ -1,8 +1,13 @@
 // Laws of the order complex, each the contract of a function with an empty body.
 ghost use Rattle.order_complex.specs.LineLaws.{EntriesAreCochains, ClassLinesAreCocycles, ProductLinesAreProducts, TestsAreEquations};
-ghost use Rattle.order_complex.specs.Laws.{ChainsAreOrdered, ChainsAreSequences, CoboundariesAreClosed, CoboundaryIsAdjoint, BettiIsOneNumber, BettiByRanks};
+ghost use Rattle.order_complex.specs.Laws.{FacesAreBelow, BoundaryAlternates, BoundariesAreCycles, ChainsAreOrdered, ChainsAreSequences, CoboundariesAreClosed, CoboundaryIsAdjoint, BettiIsOneNumber, BettiByRanks};
 
 use small_field::Field;
+
+/// The faces of a cell, by their ids, are exactly the cells below it of a smaller dimension.
+pub fn faces_are_below()
+    ensures { FacesAreBelow }
+{}
 
 /// The chains of a degree are exactly the sequences of cells, each a face of the next, with one cell more than the degree.
 pub fn chains_are_sequences()
@@ -17,6 +22,16 @@ pub fn chains_are_ordered()
 /// The coboundary of a coboundary is zero.
 pub fn coboundaries_are_closed<F: Field>()
     ensures { CoboundariesAreClosed F.ops }
+{}
+
+/// The boundary of one chain is the alternating sum of the chains with one entry left out.
+pub fn boundary_alternates<F: Field>()
+    ensures { BoundaryAlternates F.ops }
+{}
+
+/// The boundary of a boundary is zero.
+pub fn boundaries_are_cycles<F: Field>()
+    ensures { BoundariesAreCycles F.ops }
 {}
 
 /// The coboundary of a cochain on a chain with coefficients is the cochain on its boundary.

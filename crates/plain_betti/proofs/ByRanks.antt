@@ -8,8 +8,7 @@ use Rattle.order_complex.specs.Chains.{chains_of}
 use Rattle.order_complex.specs.Homology.{IsBetti}
 use Rattle.order_complex.specs.Laws.{BettiByRanks}
 use Rattle.order_complex.specs.Ranks.{rows_on, rows_of, rows_into}
-use Rattle.order_complex.proofs.Evaluation.{rows_on-matrix}
-use Rattle.order_complex.proofs.Bases.{length-rows_of, composition_is_zero}
+use Rattle.order_complex.proofs.CallerLemmas.{rows_on-matrix, length-rows_of, composition_is_zero}
 use Rattle.plain_betti.specs.Ranks.{IsRank}
 use Rattle.plain_betti.proofs.Heights.{chains_of-four}
 

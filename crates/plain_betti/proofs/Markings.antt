@@ -7,8 +7,7 @@ use native.Mathlib.Decide.{dec_lt}
 use Prim.{yes, no}
 use Rattle.order_complex.specs.Order.{IsOrdered}
 use Rattle.order_complex.specs.Cochains.{mark}
-use Rattle.order_complex.proofs.Ordered.{ordered-differ}
-use Rattle.order_complex.proofs.Twice.{bytes_eq-refl, bytes_eq-true}
+use Rattle.order_complex.proofs.CallerLemmas.{ordered-differ, bytes_eq-refl, bytes_eq-true}
 
 not-same : (b c : List ℕ) (t : Bool) → bytes_eq b c ≡ t → b ≢ c → t ≡ false
 not-same b c true e ne = absurd (ne (bytes_eq-true b c e))

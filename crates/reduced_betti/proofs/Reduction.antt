@@ -13,8 +13,7 @@ use Rattle.order_complex.specs.Chains.{chains_of}
 use Rattle.order_complex.specs.Complex.{complex_of, negative_in}
 use Rattle.order_complex.specs.Homology.{IsBetti}
 use Rattle.order_complex.specs.Ranks.{rows_of, rows_into}
-use Rattle.order_complex.proofs.Bases.{basis_of, composition_is_zero}
-use Rattle.order_complex.proofs.Cofaces.{count-chains}
+use Rattle.order_complex.proofs.CallerLemmas.{basis_of, composition_is_zero, count-chains}
 use Rattle.split_laws.specs.declared.kind.Kind.{Kind}
 use Rattle.split_laws.specs.declared.kind.Kind.TheVariants.{Critical, Lower, Upper}
 use Rattle.split_laws.specs.Kinds.{criticals, HasNoUpper, AgreeOnUppers, ZeroOffUppers}

@@ -10,9 +10,7 @@ use Rattle.order_complex.specs.Chains.{chains_of}
 use Rattle.order_complex.specs.Cochains.{leave_out, mark, coboundary_at, coboundary_on}
 use Rattle.order_complex.specs.Complex.{number_or_zero, facet_numbers, facet_lists, complex_of, stands_odd, negative_in}
 use Rattle.order_complex.specs.Ranks.{rows_on, rows_of}
-use Rattle.order_complex.proofs.Graded.{member-at}
-use Rattle.order_complex.proofs.Cancel.{holds-reverse}
-use Rattle.order_complex.proofs.Cofaces.{weight, coboundary-mark, count-chains, layer-facets, number-of}
+use Rattle.order_complex.proofs.CallerLemmas.{member-at, holds-reverse, weight, coboundary-mark, count-chains, layer-facets, number-of}
 use Rattle.critical_complex.specs.Signed.{signed_entry, signed_rows}
 use Rattle.plain_betti.proofs.Heights.{chains_of-four}
 
