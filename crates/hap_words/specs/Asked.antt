@@ -1,4 +1,10 @@
 -- The commands with their options as values.
+--   Source               the kind of an input and the name of its file, None for standard input
+--   SearchPlace          a place in the listing of covers: the number of sheets, and the cells that were placed
+--   Asked                a command with the values of its options
+--   source_of input      what an `Input` of the code stands for
+--   place_of place       the place of a position of the code
+--   asked_of command     what a `Command` of the code stands for
 use Rattle.std.specs.Prelude.{ℕ, List, option_map, string_bytes}
 use Rattle.std.specs.declared.option.Option.{Option}
 use Rattle.face_poset.specs.Positions.{Place}
@@ -7,12 +13,10 @@ use Rattle.hap_words.specs.declared.command.Input.{Input}
 use Rattle.hap_words.specs.declared.command.Command.{Command}
 use Rattle.hap_words.specs.declared.command.Command.TheVariants as command
 
--- how the input is to be read, and the name of the file, none for standard input
 pub record Source : Type 0 where
   pub kind : Kind
   pub name : Option (List ℕ)
 
--- a place in the listing of covers: the number of sheets and the cells that were placed
 abbrev pub SearchPlace : Type 0
 SearchPlace = ℕ × List ℕ
 
@@ -28,7 +32,6 @@ pub data Asked : Type 0 where
   report : Source → (modulus sheets budget : ℕ) → (from : SearchPlace) → Asked
   make : (size : ℕ) → (modulus : Option ℕ) → Asked
 
--- what a value of the code stands for
 abbrev pub source_of : Input → Source
 source_of input = record { kind = input.kind; name = option_map string_bytes input.name }
 

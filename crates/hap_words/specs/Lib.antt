@@ -1,6 +1,9 @@
+-- All of it is meaning for contracts: Asked (a command as a value), Table (what words ask for), Ranges, Line (the command
+-- line of `clap`), Texts (numbers) and Reads (what a reader answers).
 pub mod Line
 pub mod Texts
 pub mod Asked
 pub mod Table
 pub mod Reads
 pub mod Ranges
+pub use Rattle.face_poset.specs.Positions

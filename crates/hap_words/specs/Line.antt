@@ -1,4 +1,8 @@
--- The command line as one simple command of the crate `clap`: a required word, and eight options with one value each.
+-- The command line as one simple command of the crate `clap`.
+--   option_rule name     an option `--name` with one value
+--   command_rule         the required word
+--   bare_app             the required word alone; no option for help
+--   hap_app              the word with the eight options
 use Rattle.std.specs.Prelude.{true, codes}
 use Rattle.std.specs.declared.option.Option.TheVariants.{Some}
 use Rattle.clap.specs.Words.{App, Rule, Text, new_app, new_rule, with_rule}
@@ -10,11 +14,9 @@ option_rule name = record (new_rule name) { long = Some name; action = Some Set 
 abbrev pub command_rule : Rule
 command_rule = record (new_rule (codes "command")) { required = true; action = Some Set }
 
--- one required word, and no option for help
 abbrev pub bare_app : App
 bare_app = with_rule (record (new_app (codes "hap")) { top = record (new_app (codes "hap")).top { no_binary_name = true; disable_help_flag = true } }) command_rule
 
--- the same with the eight options
 unfoldable pub hap_app : App
 hap_app =
     let four = with_rule (with_rule (with_rule (with_rule bare_app (option_rule (codes "kind"))) (option_rule (codes "in"))) (option_rule (codes "mod"))) (option_rule (codes "sheets")) in

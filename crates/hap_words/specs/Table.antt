@@ -1,4 +1,19 @@
--- The table of commands: their words, the options that each takes, the values and the defaults.
+-- The table of commands: their words, the options that each takes, the values and the defaults. rows are what `clap`
+-- found: the names of the options that were given, with their texts.
+--   verbs, kinds              the words of the commands and of the kinds of input
+--   names_of verb             the options that a command takes
+--   takes verb name           one of them
+--   word_of name              the word of an option, behind two hyphens
+--   text_under rows name      the text that was given under an option
+--   fits verb rows            only options that the command takes are given
+--   value_or, value_if, value_of   an option with a default, one that may be left out, one that must be given
+--   modulus, modulus_if, sheets, budget, index, size, from, kind, source   the value of each option
+--   asked_by verb rows        the command with its values, where each has one
+--   verb_given rows           the command that is named
+--   asked words               what the words ask for, where `clap` takes them and the table has it
+--   verb_is_built, is_built   the commands that are built
+--   read words                what the words ask for, where that is built
+--   number_of_name, names, fits_at, if_modulus, modulus_of, number_under, with, asked_given, unless_faulty, if_built: steps
 use Rattle.std.specs.Prelude.{ℕ, List, [], ◌∷◌, Bool, true, false, ◌||◌, ◌==◌, codes, is_none, if◌then◌else◌, option_map}
 use Rattle.std.specs.declared.option.Option.{Option}
 use Rattle.std.specs.declared.option.Option.TheVariants.{Some, None}
@@ -67,11 +82,9 @@ word_of name.From = codes "from"
 word_of name.Index = codes "index"
 word_of name.Size = codes "size"
 
--- the text that was given under an option, by the rows of the matches
 abbrev pub text_under : List Row → Name → Option Text
 text_under rows n = first_of (word_of n) rows
 
--- only options of the command's line are given
 abbrev pub fits_at : Verb → List Row → Name → Bool
 fits_at v rows n = is_none (text_under rows n) || takes v n
 
@@ -80,17 +93,14 @@ fits v rows = list_all (fits_at v rows) names
 
 -- ---- the values
 
--- an option that is left out has its default
 abbrev pub value_or : {A : Type 0} → A → (Text → Option A) → Option Text → Option A
 value_or default read None = Some default
 value_or default read (Some text) = read text
 
--- an option that may be left out has no default
 abbrev pub value_if : {A : Type 0} → (Text → Option A) → Option Text → Option (Option A)
 value_if read None = Some None
 value_if read (Some text) = option_map Some (read text)
 
--- an option that must be given
 abbrev pub value_of : {A : Type 0} → (Text → Option A) → Option Text → Option A
 value_of read None = None
 value_of read (Some text) = read text
@@ -108,7 +118,6 @@ modulus rows = value_or 2 modulus_of (text_under rows name.Mod)
 abbrev pub modulus_if : List Row → Option (Option ℕ)
 modulus_if rows = value_if modulus_of (text_under rows name.Mod)
 
--- a number between two bounds that must be given
 abbrev pub number_under : List Row → Name → (least most : ℕ) → Option ℕ
 number_under rows n least most = value_of (number_between least most) (text_under rows n)
 
@@ -124,7 +133,6 @@ index rows = number_under rows name.Index 1 1000000000
 abbrev pub size : List Row → Option ℕ
 size rows = number_under rows name.Size 2 19
 
--- left out, the start
 abbrev pub from : List Row → Option SearchPlace
 from rows = value_or (0, []) position_from (text_under rows name.From)
 
@@ -158,7 +166,6 @@ verb_given rows = with (first_of (codes "command") rows) (named verbs)
 abbrev pub asked_given : List Row → Option Asked
 asked_given rows = with (verb_given rows) (λ v. if fits v rows then asked_by v rows else None)
 
--- what the words ask for, where `clap` takes them and the table has it
 abbrev pub unless_faulty : List ErrorKind → Option Asked → Option Asked
 unless_faulty [] asked = asked
 unless_faulty (fault ∷ faults) asked = None
@@ -191,6 +198,5 @@ abbrev pub if_built : Option Asked → Option Asked
 if_built None = None
 if_built (Some a) = if is_built a then Some a else None
 
--- the reading of the words: what they ask for, where that is built
 abbrev pub read : List Text → Option Asked
 read words = if_built (asked words)

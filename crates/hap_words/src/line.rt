@@ -6,33 +6,12 @@ ghost use Rattle.hap_words.specs.Line.{hap_app, bare_app, option_rule};
 use clap::{Arg, ArgAction, ArgMatches, Command, Error};
 use std::alloc::{AllocError, Global};
 
-fn option<'a>(alloc: Global, name: &'a str) -> Arg<'a>
-    ensures rule { rule_of result ≡ option_rule name.entry.now }
-    ensures local { result.global ≡ false }
+/// The matches of the words.
+pub fn match_words<'a>(alloc: Global, words: &'a [String]) -> Result<ArgMatches<'a>, Error>
+    ensures kinds { FailsBy (fault_of hap_app (map string_bytes words.entry.now)) result }
+    ensures rows { IfOk result (λ m. rows_of (found_of m) ≡ matches_of hap_app (map string_bytes words.entry.now)) }
 {
-    Arg::new(alloc, name).long(name).action(ArgAction::Set)
-}
-
-fn with_option<'a>(
-    command: Command<'a>,
-    alloc: Global,
-    name: &'a str,
-) -> Result<Command<'a>, AllocError>
-    ensures { IfOk result (λ c. app_of c ≡ with_rule (app_of command.entry) (option_rule name.entry.now)) }
-{
-    command.arg(option(alloc, name))
-}
-
-fn bare<'a>(alloc: Global) -> Result<Command<'a>, AllocError>
-    ensures { IfOk result (λ c. app_of c ≡ bare_app) }
-{
-    let word = Arg::new(alloc, "command")
-        .required(true)
-        .action(ArgAction::Set);
-    Command::new(alloc, "hap")
-        .no_binary_name(true)
-        .disable_help_flag(true)
-        .arg(word)
+    hap(alloc)?.try_get_matches_from(words)
 }
 
 /// The one command.
@@ -49,10 +28,31 @@ fn hap<'a>(alloc: Global) -> Result<Command<'a>, AllocError>
     with_option(index, alloc, "size")
 }
 
-/// The matches of the words.
-pub fn match_words<'a>(alloc: Global, words: &'a [String]) -> Result<ArgMatches<'a>, Error>
-    ensures kinds { FailsBy (fault_of hap_app (map string_bytes words.entry.now)) result }
-    ensures rows { IfOk result (λ m. rows_of (found_of m) ≡ matches_of hap_app (map string_bytes words.entry.now)) }
+fn with_option<'a>(
+    command: Command<'a>,
+    alloc: Global,
+    name: &'a str,
+) -> Result<Command<'a>, AllocError>
+    ensures { IfOk result (λ c. app_of c ≡ with_rule (app_of command.entry) (option_rule name.entry.now)) }
 {
-    hap(alloc)?.try_get_matches_from(words)
+    command.arg(option(alloc, name))
+}
+
+fn option<'a>(alloc: Global, name: &'a str) -> Arg<'a>
+    ensures rule { rule_of result ≡ option_rule name.entry.now }
+    ensures local { result.global ≡ false }
+{
+    Arg::new(alloc, name).long(name).action(ArgAction::Set)
+}
+
+fn bare<'a>(alloc: Global) -> Result<Command<'a>, AllocError>
+    ensures { IfOk result (λ c. app_of c ≡ bare_app) }
+{
+    let word = Arg::new(alloc, "command")
+        .required(true)
+        .action(ArgAction::Set);
+    Command::new(alloc, "hap")
+        .no_binary_name(true)
+        .disable_help_flag(true)
+        .arg(word)
 }

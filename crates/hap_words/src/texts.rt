@@ -21,29 +21,14 @@ pub fn find_named<T: Copy>(table: &[(&str, T)], word: &str) -> Option<T>
     }
 }
 
-fn is_digit(byte: u8) -> bool
-    ensures { result ≡ is_decimal_digit byte }
+/// The number that the text stands for, where it lies between the bounds.
+pub fn read_number_between(text: &str, least: u64, most: u64) -> Option<u64>
+    ensures { result ≡ number_between least most text.now }
 {
-    byte.is_ascii_digit()
-}
-
-fn are_digits(bytes: &[u8]) -> bool
-    ensures { result ≡ list_all is_decimal_digit bytes.now }
-{
-    bytes.iter().all(|byte| is_digit(*byte))
-}
-
-/// The number of these digits.
-fn digits_value(digits: &[u8]) -> u64
-    requires few { length digits.now ≤ 18 }
-    requires digits { list_all is_decimal_digit digits.now ≡ true }
-    ensures { result ≡ number_from 0 digits.now }
-{
-    let mut value: u64 = 0;
-    for digit in digits {
-        value = 10 * value + u64::from(*digit - b'0');
+    match read_number(text) {
+        Some(number) if least <= number && number <= most => Some(number),
+        _ => None,
     }
-    value
 }
 
 /// The number that the text, of 1 to 18 digits, stands for.
@@ -57,12 +42,27 @@ fn read_number(text: &str) -> Option<u64>
     Some(digits_value(digits))
 }
 
-/// The same where it lies between the bounds.
-pub fn read_number_between(text: &str, least: u64, most: u64) -> Option<u64>
-    ensures { result ≡ number_between least most text.now }
+fn are_digits(bytes: &[u8]) -> bool
+    ensures { result ≡ list_all is_decimal_digit bytes.now }
 {
-    match read_number(text) {
-        Some(number) if least <= number && number <= most => Some(number),
-        _ => None,
+    bytes.iter().all(|byte| is_digit(*byte))
+}
+
+fn is_digit(byte: u8) -> bool
+    ensures { result ≡ is_decimal_digit byte }
+{
+    byte.is_ascii_digit()
+}
+
+/// The number of these digits.
+fn digits_value(digits: &[u8]) -> u64
+    requires few { length digits.now ≤ 18 }
+    requires digits { list_all is_decimal_digit digits.now ≡ true }
+    ensures { result ≡ number_from 0 digits.now }
+{
+    let mut value: u64 = 0;
+    for digit in digits {
+        value = 10 * value + u64::from(*digit - b'0');
     }
+    value
 }
