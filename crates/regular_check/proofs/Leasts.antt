@@ -22,7 +22,7 @@ pub path_on : (step : ℕ → ℕ → Bool) (all : List ℕ) {x y z : ℕ} → R
 path_on step all p at_start = p
 path_on step all p (on q e g) = on (path_on step all p q) e g
 
-path_in : (step : ℕ → ℕ → Bool) (all : List ℕ) {x y : ℕ} → holds all x ≡ true → Reaches step all x y → holds all y ≡ true
+pub path_in : (step : ℕ → ℕ → Bool) (all : List ℕ) {x y : ℕ} → holds all x ≡ true → Reaches step all x y → holds all y ≡ true
 path_in step all m at_start = m
 path_in step all m (on q e g) = g
 
@@ -46,14 +46,14 @@ passing-more p n =
     by_test true = refl
     by_test false = refl
 
-passing-le : (p : ℕ → Bool) (a d : ℕ) → passing p a ≤ passing p (a + d)
+pub passing-le : (p : ℕ → Bool) (a d : ℕ) → passing p a ≤ passing p (a + d)
 passing-le p a zero = let e : a + zero ≡ a = omega arith in subst (λ (n : ℕ). passing p a ≤ passing p n) (sym e) (omega arith)
 passing-le p a (suc d) =
     let e : a + suc d ≡ a + d + 1 = omega arith in
     subst (λ (n : ℕ). passing p a ≤ passing p n) (sym e) (omega (arith, passing-le p a d, passing-more p (a + d)))
 
 -- one that passes is counted beyond those below it
-passing-lt : (p : ℕ → Bool) (a b : ℕ) → a < b → p b ≡ true → passing p a < passing p b
+pub passing-lt : (p : ℕ → Bool) (a b : ℕ) → a < b → p b ≡ true → passing p a < passing p b
 passing-lt p a b l e =
     let n : b ≡ b - 1 + 1 = omega arith in
     let below : passing p a ≤ passing p (b - 1) = let q : a + (b - 1 - a) ≡ b - 1 = omega arith in subst (λ (m : ℕ). passing p a ≤ passing p m) q (passing-le p a (b - 1 - a)) in
@@ -63,7 +63,7 @@ passing-lt p a b l e =
 -- ---- the least vertex
 
 module _ (space : List (List (List ℕ))) where
-  shared : (a b : ℕ) → share_edge space a b ≡ share_edge space b a
+  pub shared : (a b : ℕ) → share_edge space a b ≡ share_edge space b a
   shared a b = same (upto (count space 1))
     where
       and_swap : (x y : Bool) → (x && y) ≡ (y && x)

@@ -18,5 +18,7 @@ pub mod Numbered
 pub mod Parts
 pub mod RegularParts
 pub mod Rounds
+pub mod Circuits
+pub mod NumbersTaken
 pub mod Transfer
 pub mod Examples

@@ -16,7 +16,7 @@ use Rattle.face_poset.proofs.Members.{differ}
 use Rattle.regular_check.specs.declared.cycles.Step.{Step}
 use Rattle.regular_check.specs.Reach.{reaches, Reaches, at_start, on}
 use Rattle.regular_check.specs.Rules.{sharing, meet, each_twice, connected}
-use Rattle.regular_check.specs.Cycle.{start_of, end_of, step_from, edge_at, other_edge, walk, least_vertex, cycle_along, HasEnds, GoesRound}
+use Rattle.regular_check.specs.Cycle.{start_of, end_of, step_from, edge_at, other_edge, walk, least_vertex, cycle_along, GoesRound}
 use Rattle.regular_check.proofs.Members.{In, here, there, In-filter, In-inside, filter-In, any-In, any-some, all-In, holds-In, In-holds, In-at, at-In}
 use Rattle.regular_check.proofs.Passing.{same_bool}
 use Rattle.regular_check.proofs.Cells.{facets-cell}
@@ -30,7 +30,7 @@ use Rattle.regular_check.proofs.Walking.{other_first}
 -- ---- two numbers in a list
 
 -- the list has v and u, which differ, and no other
-record IsOther (xs : List ℕ) (v u : ℕ) : Type 0 where
+pub record IsOther (xs : List ℕ) (v u : ℕ) : Type 0 where
   pub there_too : In u xs
   pub apart : u ≢ v
   pub only : (x : ℕ) → In x xs → (x ≡ v) ⊎ (x ≡ u)
@@ -44,10 +44,10 @@ swap : {A B : Type 0} → A ⊎ B → B ⊎ A
 swap (inl a) = inr a
 swap (inr b) = inl b
 
-second : (a b : ℕ) → a < b → IsOther (a ∷ b ∷ []) a b
+pub second : (a b : ℕ) → a < b → IsOther (a ∷ b ∷ []) a b
 second a b l = record { there_too = there here; apart = λ e. omega (arith, l, e); only = λ x h. only_two a b h }
 
-first : (a b : ℕ) → a < b → IsOther (a ∷ b ∷ []) b a
+pub first : (a b : ℕ) → a < b → IsOther (a ∷ b ∷ []) b a
 first a b l = record { there_too = here; apart = λ e. omega (arith, l, e); only = λ x h. swap (only_two a b h) }
 
 -- the end of a step from v along an edge with these two vertices
@@ -99,8 +99,15 @@ made-apart f n h i j d l m =
     let b : j < n = omega (arith, m, length-map-range_with_len f 0 n) in
     λ e. h i j l b (sym (get_or-map-range_with_len f 0 n i i d (omega (arith, l, b)) (omega arith)) ∙ (e ∙ get_or-map-range_with_len f 0 n j j d b (omega arith)))
 
-apart-distinct : (xs : List ℕ) → AllPairs (λ a b. a ≢ b) xs → IsDistinct eqb xs
+pub apart-distinct : (xs : List ℕ) → AllPairs (λ a b. a ≢ b) xs → IsDistinct eqb xs
 apart-distinct xs h = IsDistinct-from_apart eqb xs (λ i j d l m. differ (get_or xs i d) (get_or xs j d) (h i j d l m))
+
+-- whether two edges meet is told in either order
+meet_back : (space : List (List (List ℕ))) (a c : ℕ) → meet space 1 a c ≡ true → meet space 1 c a ≡ true
+meet_back space a c t = let s = any-some (λ f. holds (facets_of space 1 c) f) (facets_of space 1 a) t in any-In (λ f. holds (facets_of space 1 a) f) (holds-In (facets_of space 1 c) s.2) (In-holds s.1)
+
+pub meet_same : (space : List (List (List ℕ))) (a c : ℕ) → meet space 1 a c ≡ meet space 1 c a
+meet_same space a c = same_bool (meet space 1 a c) (meet space 1 c a) (meet_back space a c) (meet_back space c a)
 
 module _ (space : List (List (List ℕ))) (edges : List ℕ) where
   -- ---- where the walk is after so many steps
@@ -141,7 +148,7 @@ module _ (space : List (List (List ℕ))) (edges : List ℕ) where
   pub record AreRound : Type 0 where
     pub valid : IsSpace space
     pub cell : IsCell (count space 1) edges
-    pub ends : HasEnds space (count space 1)
+    pub ends : (e : ℕ) → In e edges → length (facets_of space 1 e) ≡ 2
     pub twice : each_twice space 1 edges ≡ true
     pub one : connected space 1 edges ≡ true
 
@@ -149,7 +156,7 @@ module _ (space : List (List (List ℕ))) (edges : List ℕ) where
     two_ends : (e : ℕ) → In e edges → (length (facets_of space 1 e) ≡ 2) × IsStrictlyIncreasing (facets_of space 1 e)
     two_ends e m =
         let w = cell-In (count space 1) edges h.cell e m in
-        (h.ends e w.0 w.1, (facets-cell space 1 e (count space 0) h.valid (omega arith) w.0 w.1 (omega arith)).rises)
+        (h.ends e m, (facets-cell space 1 e (count space 0) h.valid (omega arith) w.0 w.1 (omega arith)).rises)
 
     -- the ends of an edge
     ends_at : (v e : ℕ) → In e edges → In v (facets_of space 1 e) → IsOther (facets_of space 1 e) v (next_vertex v e)
@@ -321,19 +328,13 @@ module _ (space : List (List (List ℕ))) (edges : List ℕ) where
             let r = made-In (edge_after v e) (suc p) (reached_in q) in
             meets_in r.0 z (omega (arith, r.1)) (holds-In edges g) (subst (λ (x : ℕ). meet space 1 x z ≡ true) r.2 t)
 
-        meet_back : (a c : ℕ) → meet space 1 a c ≡ true → meet space 1 c a ≡ true
-        meet_back a c t = let s = any-some (λ f. holds (facets_of space 1 c) f) (facets_of space 1 a) t in any-In (λ f. holds (facets_of space 1 a) f) (holds-In (facets_of space 1 c) s.2) (In-holds s.1)
-
-        meet_same : (a c : ℕ) → meet space 1 a c ≡ meet space 1 c a
-        meet_same a c = same_bool (meet space 1 a c) (meet space 1 c a) (meet_back a c) (meet_back c a)
-
         -- each edge is one of the walk
         all_in : (y : ℕ) → In y edges → In y (made (suc p))
         all_in y m =
             let c : ℕ = get_or edges 0 0 in
             let here_is : In c edges = at-In edges 0 0 (omega (arith, h.cell.some)) in
             let path : (z : ℕ) → In z edges → Reaches (meet space 1) edges c z = λ z n. (reaches_is (meet space 1) edges c z (In-holds here_is)).0 (all-In (reaches (meet space 1) edges c) h.one n) in
-            reached_in (path_on (meet space 1) edges (path_back (meet space 1) edges meet_same (In-holds here_is) (path (edge_after v e 0) (at 0).0)) (path y m))
+            reached_in (path_on (meet space 1) edges (path_back (meet space 1) edges (meet_same space) (In-holds here_is) (path (edge_after v e 0) (at 0).0)) (path y m))
 
         whole : suc p ≡ length edges
         whole =

@@ -5,7 +5,7 @@ use Rattle.std.proofs.lemmas.Bool.{false≢true}
 use Rattle.std.proofs.lemmas.List.{take_more, take_all, length-append, length-take-le, append-nil}
 use Rattle.std.proofs.lemmas.List.Elements.{filter-append}
 use Rattle.std.proofs.lemmas.List.Folds.{list_any_more}
-use Rattle.std.proofs.lemmas.List.Sums.{sum_by-cons}
+use Rattle.std.proofs.lemmas.List.Sums.{sum_by-cons, sum_by_push}
 use Rattle.face_poset.specs.Words.{holds}
 use Rattle.face_poset.specs.Poset.{IsCell, facets_of}
 use Rattle.regular_check.specs.declared.tally.Tally.{Tally}
@@ -23,14 +23,10 @@ sharing-more space dim cells i f l =
 sum-cons : (x : ℕ) (xs : List ℕ) → sum (x ∷ xs) ≡ x + sum xs
 sum-cons x xs = sum_by-cons (λ (n : ℕ). n) x xs
 
-sum-push : (xs : List ℕ) (x : ℕ) → sum (xs ++ x ∷ []) ≡ sum xs + x
-sum-push [] x = omega arith
-sum-push (y ∷ ys) x = sum-cons y (ys ++ x ∷ []) ∙ (ap (λ (n : ℕ). y + n) (sum-push ys x) ∙ (let e : y + (sum ys + x) ≡ (y + sum ys) + x = omega arith in e ∙ ap (λ (n : ℕ). n + x) (sym (sum-cons y ys))))
-
 tally-push : (xs : List ℕ) (b : Bool) (c : ℕ) → gained (tally_of xs) b c ≡ tally_of (xs ++ cond b (c ∷ []) [])
 tally-push xs true c =
     ap (λ (n : ℕ). let t : Tally = record { count = n; sum = sum xs + c } in t) (sym (length-append xs (c ∷ [])))
-    ∙ ap (λ (n : ℕ). let t : Tally = record { count = length (xs ++ c ∷ []); sum = n } in t) (sym (sum-push xs c))
+    ∙ ap (λ (n : ℕ). let t : Tally = record { count = length (xs ++ c ∷ []); sum = n } in t) (sym (sum_by_push (λ (n : ℕ). n) xs c))
 tally-push xs false c = ap tally_of (sym (append-nil xs))
 
 pub tally-more : (space : List (List (List ℕ))) (dim : ℕ) (cells : List ℕ) (i : ℕ) (old new : List Tally) → i < length cells → length new ≡ length old

@@ -1,5 +1,21 @@
--- The connected components of a space, by its vertices and edges. They are numbered from 1 in the order of their least vertices.
-use Rattle.std.specs.Prelude.{◌≡◌, ◌↔◌, ℕ, ◌≤◌, ◌==◌, ◌&&◌, List, length, filter, map, slice_index, Bool}
+-- The connected components of a space, by its vertices and edges. They are numbered from 1 in the order of their least vertices. space is
+-- the lists of a space; vertices are numbered from 1.
+--   vertices space                     the vertices
+--   share_edge space x y               whether some edge has both vertices
+--   are_joined space x y               whether edges lead from one vertex to the other
+--   least_of space vertex              the least vertex from which edges lead to this one
+--   is_least space vertex              whether the vertex is the least of its component
+--   leasts_upto space vertex           how many of the vertices from 1 to this one are the least of their components
+--   component_of space vertex          the number of the component of a vertex
+--   component_count space              how many components there are
+--   Numbering                          how many components there are, and for each vertex the number of its own
+--   components_of space                these numbers of a space
+--   SameComponentIsAPath               two vertices have the same number exactly where a path of edges leads from one to the other
+--   IsLeastVertex space vertex least   a path leads from the vertex to `least`, and to no vertex below that
+--   AreNumbers space                   each vertex has a number from 1 to the number of components, each of these is the number of some
+--                                      vertex, and of two components the one with the lesser least vertex has the lesser number
+--   ComponentsAreNumbered              so it is in any space
+use Rattle.std.specs.Prelude.{◌≡◌, ◌↔◌, ℕ, ◌≤◌, ◌<◌, ◌==◌, ◌&&◌, List, length, filter, map, slice_index, Bool}
 use Rattle.std.specs.List.{list_any}
 use Rattle.face_poset.specs.Words.{upto, holds}
 use Rattle.face_poset.specs.Poset.{count, facets_of}
@@ -8,35 +24,27 @@ use Rattle.regular_check.specs.Reach.{reaches, Reaches}
 abbrev pub vertices : List (List (List ℕ)) → List ℕ
 vertices space = upto (count space 0)
 
--- some edge has both vertices
 abbrev pub share_edge : List (List (List ℕ)) → (x y : ℕ) → Bool
 share_edge space x y = list_any (λ e. holds (facets_of space 1 e) x && holds (facets_of space 1 e) y) (upto (count space 1))
 
--- edges lead from one vertex to the other
 abbrev pub are_joined : List (List (List ℕ)) → (x y : ℕ) → Bool
 are_joined space x y = reaches (share_edge space) (vertices space) x y
 
--- the least vertex from which edges lead to this one
 abbrev pub least_of : List (List (List ℕ)) → (vertex : ℕ) → ℕ
 least_of space vertex = slice_index (filter (λ x. are_joined space x vertex) (vertices space)) 0
 
--- the vertex is the least of its component
 abbrev pub is_least : List (List (List ℕ)) → (vertex : ℕ) → Bool
 is_least space vertex = least_of space vertex == vertex
 
--- how many of the vertices from 1 to this one are the least of their components
 abbrev pub leasts_upto : List (List (List ℕ)) → (vertex : ℕ) → ℕ
 leasts_upto space vertex = length (filter (is_least space) (upto vertex))
 
--- the number of the component of a vertex
 abbrev pub component_of : List (List (List ℕ)) → (vertex : ℕ) → ℕ
 component_of space vertex = leasts_upto space (least_of space vertex)
 
--- how many components there are
 abbrev pub component_count : List (List (List ℕ)) → ℕ
 component_count space = leasts_upto space (count space 0)
 
--- how many components there are, and for each vertex the number of its own
 pub record Numbering : Type 0 where
   pub count : ℕ
   pub numbers : List ℕ
@@ -44,7 +52,6 @@ pub record Numbering : Type 0 where
 abbrev pub components_of : List (List (List ℕ)) → Numbering
 components_of space = record { count = component_count space; numbers = map (component_of space) (vertices space) }
 
--- two vertices have the same component exactly where a path of edges leads from one to the other
 abbrev pub SameComponentIsAPath : Type 0
 SameComponentIsAPath =
     (space : List (List (List ℕ))) (x y : ℕ)
@@ -53,3 +60,22 @@ SameComponentIsAPath =
     → 1 ≤ y
     → y ≤ count space 0
     → (component_of space x ≡ component_of space y) ↔ Reaches (share_edge space) (vertices space) x y
+
+pub record IsLeastVertex (space : List (List (List ℕ))) (vertex least : ℕ) : Type 0 where
+  pub there : Reaches (share_edge space) (vertices space) vertex least
+  pub low : (x : ℕ) → Reaches (share_edge space) (vertices space) vertex x → least ≤ x
+
+pub record AreNumbers (space : List (List (List ℕ))) : Type 0 where
+  pub within : (x : ℕ) → 1 ≤ x → x ≤ count space 0 → (1 ≤ component_of space x) × (component_of space x ≤ component_count space)
+  pub taken : (n : ℕ) → 1 ≤ n → n ≤ component_count space → (x : ℕ) × (1 ≤ x) × (x ≤ count space 0) × (component_of space x ≡ n)
+  pub least : (x : ℕ) → 1 ≤ x → x ≤ count space 0 → IsLeastVertex space x (least_of space x)
+  pub ordered :
+      (x y : ℕ)
+      → 1 ≤ x
+      → x ≤ count space 0
+      → 1 ≤ y
+      → y ≤ count space 0
+      → (component_of space x < component_of space y) ↔ (least_of space x < least_of space y)
+
+abbrev pub ComponentsAreNumbered : Type 0
+ComponentsAreNumbered = (space : List (List (List ℕ))) → AreNumbers space

@@ -1,6 +1,6 @@
 ghost use Rattle.regular_check.specs.Reach.{ReachesIs};
-ghost use Rattle.regular_check.specs.Components.{SameComponentIsAPath};
-ghost use Rattle.regular_check.specs.Cycle.{CyclesGoRound};
+ghost use Rattle.regular_check.specs.Components.{ComponentsAreNumbered, SameComponentIsAPath};
+ghost use Rattle.regular_check.specs.Cycle.{CyclesGoRound, OneCycleGoesRound};
 
 /// A law, and nothing at run time: the rounds by which the definitions tell what is connected reach exactly
 /// what a chain of steps leads to.
@@ -19,4 +19,16 @@ pub fn same_component_is_a_path()
 /// repeated.
 pub fn cycles_go_round()
     ensures { CyclesGoRound }
+{}
+
+/// A law, and nothing at run time: over any space, where the edges of a 2-cell have two ends, the test of the
+/// rule on 2-cells holds exactly where these edges can be listed as one cycle that repeats no vertex.
+pub fn one_cycle_goes_round()
+    ensures { OneCycleGoesRound }
+{}
+
+/// A law, and nothing at run time: the numbers of the components are 1 to the number of components, each
+/// taken, in the order of the least vertices.
+pub fn components_are_numbered()
+    ensures { ComponentsAreNumbered }
 {}

@@ -18,5 +18,8 @@ mod tally;
 pub use components::Components;
 pub use cycles::Step;
 pub use fault::RegularFault;
-pub use laws::{cycles_go_round, rounds_reach_what_steps_lead_to, same_component_is_a_path};
+pub use laws::{
+    components_are_numbered, cycles_go_round, one_cycle_goes_round,
+    rounds_reach_what_steps_lead_to, same_component_is_a_path,
+};
 pub use regular::{Regular, check};

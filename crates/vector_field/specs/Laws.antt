@@ -1,4 +1,9 @@
--- What validity and maximality mean.
+-- What validity and maximality mean. space is the lists of a graded set, pairs a list of pairs, p a pair.
+--   IsClosed space pairs p     the pairs lead round: from another facet of the pair's upper to its lower
+--   AddedPairCloses            a pair of critical cells that is added to a maximal field closes a path
+--   ValidClosesNone            the pairs of a valid field close no path
+--   SubstitutionEnds           along a valid field substitution ends: what holds of each facet that is no lower, and of the lower of each
+--                              pair of which it holds of the other facets of the upper, holds of all lowers
 use Rattle.std.specs.Prelude.{◌≡◌, ℕ, ◌+◌, List, Bool, true, false, Contains}
 use Rattle.face_poset.specs.declared.cells.Pair.{Pair}
 use Rattle.vector_field.specs.Pairs.{has_lower, is_used, is_incident, others, IsValid}
@@ -6,13 +11,11 @@ use Rattle.vector_field.specs.Paths.{Leads}
 use Rattle.vector_field.specs.Maximal.{IsMaximal}
 use Rattle.std.specs.List.{list_any}
 
--- the pairs lead round: from another facet of the pair's upper to its lower
 pub record IsClosed (space : List (List (List ℕ))) (pairs : List Pair) (p : Pair) : Type 0 where
   pub first : ℕ
   pub other : Contains (others space p) first
   pub leads : Leads space pairs p.dim p.lower first
 
--- a pair of critical cells that is added to a maximal field closes a path
 abbrev pub AddedPairCloses : Type 0
 AddedPairCloses =
     (space : List (List (List ℕ))) (pairs : List Pair) (p : Pair)
@@ -22,12 +25,9 @@ AddedPairCloses =
     → is_used pairs (p.dim + 1) p.upper ≡ false
     → IsClosed space pairs p
 
--- the pairs of a valid field close no path
 abbrev pub ValidClosesNone : Type 0
 ValidClosesNone = (space : List (List (List ℕ))) (pairs : List Pair) (p : Pair) → IsValid space pairs → Contains pairs p → IsClosed space pairs p → ⊥
 
--- along a valid field substitution ends: what holds of each facet that is no lower, and of the lower of each pair of
--- which it holds of the other facets of the upper, holds of all lowers
 abbrev pub SubstitutionEnds : Type 0
 SubstitutionEnds =
     (space : List (List (List ℕ))) (pairs : List Pair) (dim : ℕ) (known : ℕ → Bool)

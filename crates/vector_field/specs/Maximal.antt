@@ -1,4 +1,12 @@
--- Maximal fields: no pair of critical cells can be added without closing a path.
+-- Maximal fields: no pair of critical cells can be added without closing a path. space is the lists of a graded set, pairs a list of pairs.
+--   IsMaximal space pairs                     each incident pair of critical cells has a gradient path from the upper to the lower by another
+--                                             first facet
+--   IsGood space pairs                        a valid field that is maximal and leaves one vertex critical
+-- The same, computed:
+--   is_settled space pairs dim lower upper    whether a coface of a cell is in a pair or has a path to the cell
+--   is_maximal_at space pairs dim             whether all critical cells of a dimension have only such cofaces
+--   is_maximal space pairs                    whether this is so in each dimension
+--   MaximalIsExact                            the test tells whether the pairs are maximal
 use Rattle.std.specs.Prelude.{◌≡◌, ◌↔◌, ℕ, ◌+◌, ◌&&◌, ◌||◌, List, length, Bool, true, false}
 use Rattle.std.specs.List.{list_all}
 use Rattle.face_poset.specs.declared.cells.Pair.{Pair}
@@ -6,7 +14,6 @@ use Rattle.face_poset.specs.Poset.{count, cofaces_of}
 use Rattle.vector_field.specs.Pairs.{pair, is_used, is_incident, unpaired, IsValid}
 use Rattle.vector_field.specs.Paths.{GradientPath, has_path}
 
--- each incident pair of critical cells has a gradient path from the upper to the lower by another first facet
 abbrev pub IsMaximal : List (List (List ℕ)) → List Pair → Type 0
 IsMaximal space pairs =
     (dim lower upper : ℕ)
@@ -15,25 +22,19 @@ IsMaximal space pairs =
     → is_used pairs (dim + 1) upper ≡ false
     → GradientPath space pairs dim upper lower
 
--- a valid field that is maximal and leaves one vertex critical
 pub record IsGood (space : List (List (List ℕ))) (pairs : List Pair) : Type 0 where
   pub valid : IsValid space pairs
   pub maximal : IsMaximal space pairs
   pub vertex : length (unpaired pairs 0 (count space 0)) ≡ 1
 
--- ---- the same, computed
-
--- a coface of a cell is in a pair or has a path to the cell
 abbrev pub is_settled : List (List (List ℕ)) → List Pair → (dim lower upper : ℕ) → Bool
 is_settled space pairs dim lower upper = is_used pairs (dim + 1) upper || has_path space pairs dim upper lower
 
--- all critical cells of a dimension have only such cofaces
 abbrev pub is_maximal_at : List (List (List ℕ)) → List Pair → (dim : ℕ) → Bool
 is_maximal_at space pairs dim = list_all (λ lower. list_all (is_settled space pairs dim lower) (cofaces_of space dim lower)) (unpaired pairs dim (count space dim))
 
 abbrev pub is_maximal : List (List (List ℕ)) → List Pair → Bool
 is_maximal space pairs = is_maximal_at space pairs 0 && (is_maximal_at space pairs 1 && is_maximal_at space pairs 2)
 
--- the test tells whether the pairs are maximal
 abbrev pub MaximalIsExact : Type 0
 MaximalIsExact = (space : List (List (List ℕ))) (pairs : List Pair) → (is_maximal space pairs ≡ true) ↔ IsMaximal space pairs

@@ -1,6 +1,24 @@
--- Fields of pairs on a graded set: lists of a cell with a coface of it, no cell in two of them, in an order
--- in which a value at the lower of a pair can be found from values at the lowers of earlier ones.
--- (Discrete vector fields: R. Forman, Morse theory for cell complexes.)
+-- Fields of pairs on a graded set: lists of a cell with a coface of it, no cell in two of them, in an order in which a value at the lower
+-- of a pair can be found from values at the lowers of earlier ones. (Discrete vector fields: R. Forman, Morse theory for cell complexes.)
+-- space is the lists of a graded set, pairs a list of pairs, p a pair; cells are numbered from 1 in each dimension.
+--   pair dim lower upper             a cell, of dimension dim, and a coface by their numbers
+--   has_lower dim cell p             whether the cell is the lower of the pair
+--   uses dim cell p                  whether it is the lower or the upper
+--   is_used pairs dim cell           whether it is in some pair of the list
+--   is_incident space p              whether the two cells are there, and the lower is a facet of the upper
+--   others space p                   the other facets of the upper
+--   comes_before space p later       whether no other facet of the upper is the lower of one of the later pairs, in the same dimension
+--   fits space earlier p later       whether the pair may stand after the earlier pairs and before the later ones
+--   bad_from space earlier i pairs   the first index of a pair that does not fit, where i is that of the first and `earlier` stands before
+--   first_bad space pairs            the first index, counted from 0, of a pair that does not fit
+--   IsValid space pairs              each pair fits
+--   IsFault first fault              the fault is want of memory, or the first index of a pair that does not fit
+--   Field                            the pairs in their order, and how many cells of dimensions 0 to 3 there are
+--   counts_of space                  how many cells of dimensions 0 to 3 a graded set has
+--   IsFieldOf space field            the field is one on this graded set
+--   unpaired pairs dim most          the cells from 1 to `most` that are in no pair
+--   critical_of field dim            the critical cells of a dimension: those in no pair
+--   IsPartner pairs dim cell how     what the pairs say of a cell
 use Rattle.std.specs.Prelude.{◌≡◌, ⊤, ℕ, suc, ◌+◌, ◌&&◌, ◌||◌, ◌==◌, List, [], ◌∷◌, ◌++◌, Bool, false, cond, not, nat_lt, nat_le, filter, map, slice_index, Contains, Option, Some, None}
 use Rattle.std.specs.List.{list_all, list_any}
 use Rattle.face_poset.specs.declared.cells.Pair.{Pair}
@@ -11,23 +29,18 @@ use Rattle.vector_field.specs.declared.fault.PairFault.TheVariants.{Bad, Memory}
 use Rattle.vector_field.specs.declared.partner.Partner.{Partner}
 use Rattle.vector_field.specs.declared.partner.Partner.TheVariants.{Critical, Upper, Lower}
 
--- a cell and a coface by their numbers, where `dim` is the dimension of the cell
 abbrev pub pair : (dim lower upper : ℕ) → Pair
 pair dim lower upper = record { dim = dim; lower = lower; upper = upper }
 
--- the cell is the lower of the pair
 abbrev pub has_lower : (dim cell : ℕ) → Pair → Bool
 has_lower dim cell p = (p.dim == dim) && (p.lower == cell)
 
--- the cell is the lower or the upper of the pair
 abbrev pub uses : (dim cell : ℕ) → Pair → Bool
 uses dim cell p = has_lower dim cell p || ((p.dim + 1 == dim) && (p.upper == cell))
 
--- the cell is in some pair of the list
 abbrev pub is_used : List Pair → (dim cell : ℕ) → Bool
 is_used pairs dim cell = list_any (uses dim cell) pairs
 
--- the two cells are there, and the lower is a facet of the upper
 abbrev pub is_incident : List (List (List ℕ)) → Pair → Bool
 is_incident space p =
     nat_lt p.dim 3
@@ -37,15 +50,12 @@ is_incident space p =
     && (nat_le p.upper (count space (p.dim + 1))
     && holds (facets_of space (p.dim + 1) p.upper) p.lower))))
 
--- the other facets of the upper
 abbrev pub others : List (List (List ℕ)) → Pair → List ℕ
 others space p = filter (λ f. not (f == p.lower)) (facets_of space (p.dim + 1) p.upper)
 
--- no other facet of the upper is the lower of one of these pairs
 abbrev pub comes_before : List (List (List ℕ)) → Pair → List Pair → Bool
 comes_before space p later = list_all (λ f. not (list_any (has_lower p.dim f) later)) (others space p)
 
--- the pair may stand after the earlier pairs and before the later ones
 abbrev pub fits : List (List (List ℕ)) → (earlier : List Pair) → Pair → (later : List Pair) → Bool
 fits space earlier p later =
     is_incident space p
@@ -53,27 +63,20 @@ fits space earlier p later =
     && (not (is_used earlier (p.dim + 1) p.upper)
     && comes_before space p later))
 
--- the first index of a pair that does not fit, where the index of the first is given and these pairs stand before it
 abbrev pub bad_from : List (List (List ℕ)) → (earlier : List Pair) → (index : ℕ) → List Pair → Option ℕ
 bad_from space earlier index [] = None
 bad_from space earlier index (p ∷ ps) = cond (fits space earlier p ps) (bad_from space (earlier ++ p ∷ []) (suc index) ps) (Some index)
 
--- the first index, counted from 0, of a pair that does not fit
 abbrev pub first_bad : List (List (List ℕ)) → List Pair → Option ℕ
 first_bad space pairs = bad_from space [] 0 pairs
 
--- each pair fits
 abbrev pub IsValid : List (List (List ℕ)) → List Pair → Type 0
 IsValid space pairs = first_bad space pairs ≡ None
 
--- want of memory, or the first index of a pair that does not fit
 abbrev pub IsFault : Option ℕ → PairFault → Type 0
 IsFault first Memory = ⊤
 IsFault first (Bad index) = first ≡ Some index
 
--- ---- fields
-
--- the pairs in their order, and how many cells of dimensions 0 to 3 there are
 pub record Field : Type 0 where
   pub pairs : List Pair
   pub counts : List ℕ
@@ -81,20 +84,16 @@ pub record Field : Type 0 where
 abbrev pub counts_of : List (List (List ℕ)) → List ℕ
 counts_of space = map (count space) (0 ∷ 1 ∷ 2 ∷ 3 ∷ [])
 
--- the field is one on this graded set
 pub record IsFieldOf (space : List (List (List ℕ))) (field : Field) : Type 0 where
   pub counts : field.counts ≡ counts_of space
   pub valid : IsValid space field.pairs
 
--- the cells from 1 to `most` that are in no pair
 abbrev pub unpaired : List Pair → (dim most : ℕ) → List ℕ
 unpaired pairs dim most = filter (λ cell. not (is_used pairs dim cell)) (upto most)
 
--- the critical cells of a dimension: those in no pair
 abbrev pub critical_of : Field → (dim : ℕ) → List ℕ
 critical_of field dim = unpaired field.pairs dim (slice_index field.counts dim)
 
--- what the pairs say of a cell
 abbrev pub IsPartner : List Pair → (dim cell : ℕ) → Partner → Type 0
 IsPartner pairs dim cell Critical = is_used pairs dim cell ≡ false
 IsPartner pairs dim cell (Upper upper) = Contains pairs (pair dim cell upper)

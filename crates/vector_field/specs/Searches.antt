@@ -1,4 +1,9 @@
--- The search for what the pairs lead from to a cell.
+-- The search for what the pairs lead from to a cell. space is the lists of a graded set, pairs a list of pairs, found a list of cells.
+--   IsLed space pairs dim last found              exactly the cells were found from which the pairs lead to `last`
+--   IsStep space pairs dim facet lower            the lower is that of a pair of a coface of the facet, and not the facet
+--   HasSteps space pairs dim facet old new        all that lead to the facet by one pair were put last
+--   reaches_found found lower facets              whether some other facet was found
+--   IsOpen space pairs dim lower upper found      a coface that is in no pair and has no path to the cell, and what leads to the cell
 use Rattle.std.specs.Prelude.{◌≡◌, ◌≢◌, ◌⊎◌, ℕ, ◌+◌, ◌<◌, ◌≤◌, ◌&&◌, ◌==◌, List, length, not, Bool, true, false, slice_index_or, Contains}
 use Rattle.std.specs.List.{list_any}
 use Rattle.face_poset.specs.declared.cells.Pair.{Pair}
@@ -7,18 +12,15 @@ use Rattle.face_poset.specs.Poset.{cofaces_of}
 use Rattle.vector_field.specs.Pairs.{pair, is_used}
 use Rattle.vector_field.specs.Paths.{leads_to, has_path}
 
--- exactly the cells were found from which the pairs lead to `last`
 abbrev pub IsLed : List (List (List ℕ)) → List Pair → (dim last : ℕ) → (found : List ℕ) → Type 0
 IsLed space pairs dim last found = (f : ℕ) → holds found f ≡ leads_to space pairs dim last f
 
--- the lower of a pair of a coface of the facet, other than the facet
 pub record IsStep (space : List (List (List ℕ))) (pairs : List Pair) (dim facet lower : ℕ) : Type 0 where
   pub upper : ℕ
   pub coface : holds (cofaces_of space dim facet) upper ≡ true
   pub paired : Contains pairs (pair dim lower upper)
   pub other : lower ≢ facet
 
--- all that lead to the facet by one pair were put last
 pub record HasSteps (space : List (List (List ℕ))) (pairs : List Pair) (dim facet : ℕ) (old new : List ℕ) : Type 0 where
   pub long : length old ≤ length new
   pub begins : (k : ℕ) → k < length old → slice_index_or new k 0 ≡ slice_index_or old k 0
@@ -26,11 +28,9 @@ pub record HasSteps (space : List (List (List ℕ))) (pairs : List Pair) (dim fa
   pub added : (lower : ℕ) → IsStep space pairs dim facet lower → holds new lower ≡ true
   pub only : (lower : ℕ) → holds new lower ≡ true → (holds old lower ≡ true) ⊎ IsStep space pairs dim facet lower
 
--- some other facet was found
 abbrev pub reaches_found : (found : List ℕ) → (lower : ℕ) → (facets : List ℕ) → Bool
 reaches_found found lower facets = list_any (λ f. not (f == lower) && holds found f) facets
 
--- a coface that is in no pair and has no path to the cell, and what leads to the cell
 pub record IsOpen (space : List (List (List ℕ))) (pairs : List Pair) (dim lower upper : ℕ) (found : List ℕ) : Type 0 where
   pub coface : holds (cofaces_of space dim lower) upper ≡ true
   pub free : is_used pairs (dim + 1) upper ≡ false

@@ -1,4 +1,4 @@
-// Pairs of free faces: a cell with the only one of its cofaces that is left.
+// Pairs of a cell with a coface, chosen where the coface is the only one that is left.
 ghost use Rattle.std.specs.Prelude.{◌≡◌, ◌+◌, ◌++◌, ◌<◌, All, IfOk};
 ghost use Rattle.face_poset.specs.declared.cells.Pair.{Pair};
 ghost use Rattle.vector_field.specs.Pairs.{IsValid};
@@ -9,11 +9,7 @@ use crate::rest::Rest;
 use face_poset::{Graded, Pair};
 use std::alloc::{AllocError, Global};
 
-/// Pairs of cells of dimension `dim`, which go after the pairs that are there.
-///
-/// While a cell of dimension `dim` has just one coface that is left, the two are paired and the coface is
-/// left no more. Else the least coface goes without a pair. The pairs come in the order in which a value
-/// at the lower of the last one made is known first.
+/// Pairs of cells of dimension `dim`, which make a field where they stand after the pairs that are there.
 pub(crate) fn free_pairs<G: Graded>(
     alloc: Global,
     graded: &G,

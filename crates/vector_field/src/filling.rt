@@ -12,8 +12,8 @@ use crate::search::open_coface;
 use face_poset::{Graded, Pair};
 use std::alloc::{AllocError, Global};
 
-/// Pairs the lower with its first coface that is in no pair and has no gradient path to it by another
-/// first facet, if there is one.
+/// Pairs the lower with a coface that is in no pair and has no gradient path to it by another first facet,
+/// if there is one.
 fn add_pair<G: Graded>(
     alloc: Global,
     graded: &G,

@@ -11,10 +11,8 @@ use crate::pairing::Pairing;
 use face_poset::Graded;
 use std::alloc::{AllocError, Global};
 
-/// A maximal field of the graded set.
-///
-/// From dimension 2 down to 0, free faces are paired first: a cell with its only coface that is left.
-/// Then what stays critical is paired where no gradient path forbids it.
+/// A maximal field of the graded set: no pair of critical cells can be added to it without closing a
+/// gradient path.
 pub fn free_field<G: Graded>(alloc: Global, graded: &G) -> Result<PairList, AllocError>
     ensures valid { IfOk result (IsFieldOf (G.space graded.now)) }
     ensures maximal { IfOk result (λ field. IsMaximal (G.space graded.now) field.pairs) }
@@ -27,7 +25,8 @@ pub fn free_field<G: Graded>(alloc: Global, graded: &G) -> Result<PairList, Allo
     Ok(field)
 }
 
-/// Pairs cells of a dimension with their cofaces.
+/// Pairs cells of a dimension with their cofaces, until each is in a pair or each of its cofaces is in
+/// a pair or has a gradient path to it.
 fn pair_dimension<G: Graded>(
     alloc: Global,
     graded: &G,

@@ -10,17 +10,17 @@ use face_poset::Graded;
 use std::alloc::{AllocError, Global};
 use std::marker::Model;
 
-/// The cells of one dimension that are left, with the facets that may be a facet of one of them alone.
+/// The cells of one dimension that are left, with facets that were noted to be looked at.
 #[derive(Drop)]
 pub(crate) struct Rest {
     cells: Vec<bool>,
-    /// For each facet how many of the cells that are left have it.
+    /// For each facet a number of cells that have it, by which facets are noted.
     shared: Vec<u32>,
-    /// Facets that were a facet of one cell alone when they were put here.
+    /// The facets that were noted.
     free: Vec<u32>,
     /// How many of these were handed out.
     taken: usize,
-    /// No cell before this index is left.
+    /// Where the look for a cell goes on.
     least: usize,
 }
 
@@ -65,7 +65,7 @@ impl Rest {
         Ok(rest)
     }
 
-    /// Notes how many of the cofaces of a facet are left.
+    /// Looks at the cofaces of a facet, and may note it.
     fn count(&mut self, facet: u32, cofaces: &[u32]) -> Result<(), AllocError>
         requires first { 1 ≤ facet }
         requires last { facet ≤ self.old.most }
@@ -95,7 +95,7 @@ impl Rest {
         self.cells[cell as usize - 1]
     }
 
-    /// A facet that may be a facet of one cell alone, those that came first before the others.
+    /// A facet that was noted, if one is to be looked at.
     pub(crate) fn next_free(&mut self) -> Option<u32>
         ensures most { self.new.most ≡ self.old.most }
         ensures cells { self.new.cells ≡ self.old.cells }
@@ -109,7 +109,7 @@ impl Rest {
         Some(facet)
     }
 
-    /// The least cell that is left, if there is one.
+    /// A cell to be taken out, if there is one.
     pub(crate) fn next_left(&mut self) -> Option<u32>
         ensures most { self.new.most ≡ self.old.most }
         ensures cells { self.new.cells ≡ self.old.cells }
@@ -125,7 +125,7 @@ impl Rest {
         None
     }
 
-    /// The one of these cells that is left, if there is just one.
+    /// A cell that is the only one of these that is left.
     pub(crate) fn only(&self, among: &[u32]) -> Option<u32>
         requires { (cell : ℕ) → holds among.now cell ≡ true → (1 ≤ cell) × (cell ≤ length self.now.cells) }
         ensures { IfSome result (IsOnly self.now.cells among.now) }
@@ -157,7 +157,7 @@ impl Rest {
         Ok(())
     }
 
-    /// One cell with the facet is left no more.
+    /// A cell with the facet was taken out; the facet may be noted.
     fn leave(&mut self, facet: u32) -> Result<(), AllocError>
         requires first { 1 ≤ facet }
         requires last { facet ≤ self.old.most }

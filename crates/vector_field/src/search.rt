@@ -96,7 +96,8 @@ fn has_found(facets: &[u32], lower: u32, found: &Found) -> bool
     false
 }
 
-/// The first coface of the cell that is in no pair and has no gradient path to it by another first facet.
+/// A coface of the cell that is in no pair and has no gradient path to it by another first facet, if there
+/// is one.
 pub(crate) fn open_coface<G: Graded>(
     graded: &G,
     pairing: &Pairing,
