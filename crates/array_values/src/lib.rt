@@ -4,8 +4,6 @@
 mod arcs;
 mod bits;
 mod fault;
-#[cfg(test)]
-mod tests;
 
 pub use arcs::{Arcs, read_arcs};
 pub use bits::{BitArray, read_bits};

@@ -7,7 +7,7 @@ use Rattle.std.specs.declared.option.Option.TheVariants.{Some, None}
 use Rattle.face_poset.specs.Poset.{count, euler_of}
 use Rattle.face_poset.specs.Text.{boundary_text}
 use Rattle.order_complex.specs.Chains.{chains_of}
-use Rattle.array_readers.specs.Torus.{torus_of}
+use Rattle.tuple_spaces.specs.Torus.{torus_of}
 use Rattle.regular_check.specs.Components.{component_count}
 use Rattle.small_field.specs.Prime.{mod_ops}
 use Rattle.plain_betti.specs.declared.numbers.Betti.{Betti}

@@ -10,15 +10,15 @@ use Rattle.gap_text.specs.Value.{Value}
 use Rattle.face_poset.specs.declared.fault.SpaceFault.{SpaceFault}
 use Rattle.face_poset.specs.Reader.{space_of}
 use Rattle.array_values.specs.declared.fault.ArrayFault.{ArrayFault}
-use Rattle.voxel_words.specs.Voxels.{cubical_of}
-use Rattle.arc_complements.specs.Complements.{arcs_space_of}
+use Rattle.tuple_spaces.specs.Voxels.{cubical_of}
+use Rattle.voxel_spaces.specs.ArcComplements.{arcs_space_of}
 use Rattle.permutahedral_arrays.specs.Permutahedra.{permutahedral_of}
 use Rattle.hap_words.specs.declared.command.Kind.{Kind}
 use Rattle.hap_words.specs.declared.command.Kind.TheVariants.{Boundary, Cubical, Permutahedral, Arcs}
 use Rattle.regular_check.specs.declared.fault.RegularFault.{RegularFault}
 use Rattle.regular_check.specs.Rules.{first_fault}
 use Rattle.order_complex.specs.Chains.{chain_count}
-use Rattle.array_readers.specs.Torus.{torus_of}
+use Rattle.tuple_spaces.specs.Torus.{torus_of}
 use Rattle.hap_cli.specs.declared.refusal.Refusal.{Refusal}
 use Rattle.hap_cli.specs.declared.refusal.Refusal.TheVariants.{TooLong, Text, Space, Array, Irregular, Chains}
 

@@ -1,7 +1,7 @@
 // The command `make`.
 ghost use Rattle.std.specs.Prelude.{◌≡◌, ◌≢◌, ◌≤◌, ◌<◌, ◌+◌, ◌++◌, true, None, Some, Ok, IfOk, IfErr, OnOk};
 ghost use Rattle.small_field.specs.Prime.{mod_ops};
-ghost use Rattle.array_readers.specs.Torus.{torus_of};
+ghost use Rattle.tuple_spaces.specs.Torus.{torus_of};
 ghost use Rattle.hap_outside.specs.Causes.{Rose, HasCause};
 ghost use Rattle.hap_outside.specs.Writes.{Writes};
 ghost use Rattle.hap_words.specs.Asked.{make};
@@ -14,7 +14,6 @@ ghost use Rattle.hap_cli.specs.Outcomes.{Fails, IsEnd};
 use crate::betti::{MOST_CHAINS, write_betti};
 use crate::cells::write_cells;
 use crate::outcome::{Outcome, written};
-use array_readers::torus;
 use face_poset::Space;
 use hap_outside::{Failed, Piece, Sink, write_pieces};
 use order_complex::Chains;
@@ -23,6 +22,7 @@ use reduced_betti::betti_modulo;
 use std::alloc::Global;
 use std::sync::ledger::Ledger;
 use step_count::Steps;
+use tuple_spaces::torus;
 
 /// The chains of the space, or how the run ends where there are too many.
 fn few_chains<'a>(alloc: Global, space: &'a Space) -> Result<Chains<'a>, Outcome>

@@ -11,8 +11,6 @@ ghost use Rattle.hap_cli.specs.Outcomes.{Fails, IsStopped};
 use crate::input::{MOST_BYTES, read_input};
 use crate::outcome::Outcome;
 use crate::refusal::Refusal;
-use arc_complements::arcs;
-use cubical_arrays::cubical;
 use face_poset::{Space, from_nest};
 use gap_text::{Nest, parse};
 use hap_outside::{ReadAll, Source};
@@ -20,6 +18,7 @@ use hap_words::{Input, Kind};
 use permutahedral_arrays::permutahedral;
 use regular_check::{Regular, check};
 use std::alloc::Global;
+use voxel_spaces::{arcs, cubical};
 
 /// The space of a nested list, by the kind of the input.
 fn space_of_nest(alloc: Global, kind: Kind, nest: &Nest) -> Result<Space, Outcome>

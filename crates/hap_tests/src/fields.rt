@@ -1,7 +1,7 @@
 // Fields of pairs on the chains of a small torus.
-use array_readers::torus;
 use order_complex::Chains;
 use std::test::Fail;
+use tuple_spaces::torus;
 use vector_field::free_field;
 
 #[test]

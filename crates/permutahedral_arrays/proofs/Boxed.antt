@@ -6,8 +6,8 @@ use Rattle.std.proofs.lemmas.List.{append-nil}
 use Rattle.std.proofs.lemmas.Nat.{mod_below, div_below}
 use Rattle.regular_check.proofs.Members.{and-left, and-right, and-both}
 use Rattle.regular_check.proofs.Passing.{same_bool}
-use Rattle.array_readers.specs.Tuples.{same}
-use Rattle.array_readers.proofs.Triples.{same-eq}
+use Rattle.tuple_spaces.specs.Tuples.{same}
+use Rattle.tuple_spaces.proofs.Triples.{same-eq}
 use Rattle.permutahedral_arrays.specs.Places as places
 use Rattle.permutahedral_arrays.specs.Permutahedra.{boxed, moved, vectors, still, chains, sequences, is_among, cells_of, present_of}
 use Rattle.permutahedral_arrays.proofs.Loops.{as_three, same_three, less_three, less_rows, same_loop, none_loop, boxed_two, boxed_three, all-loop, all-filter, filter-flat_map, map-flat_map}

@@ -7,7 +7,7 @@ use Rattle.std.proofs.lemmas.Bool.{false≢true, leb-true, ltb-true}
 use Rattle.std.proofs.lemmas.List.Elements.{All-cons, All-nil}
 use Rattle.face_poset.specs.Poset.{IsCell}
 use Rattle.regular_check.proofs.Members.{and-left, and-right}
-use Rattle.array_readers.proofs.Stages.{by_dim}
+use Rattle.tuple_spaces.proofs.TorusStages.{by_dim}
 use Rattle.permutahedral_arrays.specs.Places.{step, is_below, shapes_in, cell_at, holds}
 
 -- ---- steps

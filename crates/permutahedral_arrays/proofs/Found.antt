@@ -6,7 +6,7 @@ use Rattle.std.proofs.lemmas.List.{length-append, length-map, get_or-drop, drop-
 use Rattle.std.proofs.lemmas.List.Folds.{list_any-append}
 use Rattle.regular_check.proofs.Members.{and-both}
 use Rattle.regular_check.proofs.Passing.{same_bool}
-use Rattle.array_readers.specs.Tuples.{same}
+use Rattle.tuple_spaces.specs.Tuples.{same}
 use Rattle.permutahedral_arrays.specs.Places.{is_inside, mark_at}
 use Rattle.permutahedral_arrays.specs.Permutahedra.{boxed, present_of, is_among}
 use Rattle.permutahedral_arrays.proofs.Marked.{inside, past_planes, past_rows, past_columns}

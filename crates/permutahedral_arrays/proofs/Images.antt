@@ -4,7 +4,7 @@ use Rattle.std.specs.List.{list_any, list_all}
 use Rattle.std.proofs.lemmas.List.{length-map}
 use Rattle.regular_check.proofs.Members.{and-left, and-right, and-both}
 use Rattle.face_poset.specs.Words.{upto}
-use Rattle.array_readers.specs.Tuples.{same}
+use Rattle.tuple_spaces.specs.Tuples.{same}
 use Rattle.permutahedral_arrays.specs.Places as places
 use Rattle.permutahedral_arrays.specs.Permutahedra.{moved, vectors, still, chains, sequences, is_among, facets_of}
 use Rattle.permutahedral_arrays.proofs.Loops.{map_same, map_twice}

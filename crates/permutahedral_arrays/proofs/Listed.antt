@@ -10,7 +10,7 @@ use Rattle.face_poset.specs.Words.{upto}
 use Rattle.face_poset.specs.Poset.{IsCell}
 use Rattle.regular_check.proofs.Members.{In, here, there, In-at, In-filter, In-all, all-In, any-In, any-some, holds-In, In-holds, or-left, or-right, or-cases}
 use Rattle.regular_check.proofs.Joined.{upto-In, In-upto}
-use Rattle.array_readers.proofs.Numbering.{In-map, map-In}
+use Rattle.tuple_spaces.proofs.TorusNumbers.{In-map, map-In}
 use Rattle.permutahedral_arrays.specs.Places.{step, cell_at, is_present, cells_at, cells_of, holds, facets_of}
 use Rattle.permutahedral_arrays.proofs.Climbing.{climbs, climb, are_refined}
 

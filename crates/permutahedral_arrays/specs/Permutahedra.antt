@@ -12,7 +12,7 @@ use Rattle.array_values.specs.declared.fault.ArrayFault.{ArrayFault}
 use Rattle.array_values.specs.declared.fault.ArrayFault.TheVariants.{TooManyCells}
 use Rattle.array_values.specs.Answers.{and_then}
 use Rattle.array_values.specs.Bits.{array_of}
-use Rattle.array_readers.specs.Tuples.{tuples, same}
+use Rattle.tuple_spaces.specs.Tuples.{tuples, same}
 
 -- all points with coordinates below limits, in lexicographic order
 abbrev pub boxed : (limits : List ℕ) → List (List ℕ)

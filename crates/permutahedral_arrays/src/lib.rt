@@ -6,7 +6,5 @@ mod marks;
 mod permutahedra;
 mod shapes;
 mod spaces;
-#[cfg(test)]
-mod tests;
 
 pub use permutahedra::permutahedral;

@@ -1,6 +1,6 @@
 use Rattle.std.proofs.Common.{◌≤◌, ◌+◌, None, Some, ap, refl, subst, sym}
 use Rattle.small_field.specs.Prime.{mod_ops}
-use Rattle.array_readers.specs.Torus.{torus_of}
+use Rattle.tuple_spaces.specs.Torus.{torus_of}
 use Rattle.plain_betti.specs.Numbers.{AreBetti, coboundary_entries}
 use Rattle.hap_outside.specs.Causes.{Rose}
 use Rattle.hap_outside.specs.Writes.{Writes}

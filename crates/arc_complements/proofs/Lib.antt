@@ -1,3 +1,0 @@
-pub mod AnyRow
-pub mod Staying
-pub mod Examples

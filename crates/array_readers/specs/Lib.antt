@@ -1,3 +1,0 @@
-pub mod Tuples
-pub mod Torus
-pub mod Grid

@@ -1,5 +1,0 @@
-use Rattle.std.proofs.Common.{◌-◌, length}
-use Rattle.cubical_arrays.proofs.grid.+push_faces.Given as goal
-
-abbrev pub decreases-push_faces : goal.decreases-push_faces
-decreases-push_faces l = length l.strides.now - l.level

@@ -1,5 +1,0 @@
-use Rattle.std.proofs.Common.{◌-◌, length}
-use Rattle.cubical_arrays.proofs.grid.+volume_from.Given as goal
-
-abbrev pub decreases-volume_from : goal.decreases-volume_from
-decreases-volume_from l = length l.limits.now - l.level

@@ -1,0 +1,16 @@
+pub mod Among
+pub mod PassingPlaces
+pub mod Triples
+pub mod TorusFacets
+pub mod TorusNumbers
+pub mod TorusStages
+pub mod TorusCounts
+pub mod TorusRoom
+pub mod TupleSpaces
+pub mod SmallestTorus
+pub mod TorusRegularity
+pub mod Boxes
+pub mod VoxelCubes
+pub mod VoxelShifts
+pub mod VoxelRegularity
+pub mod VoxelExamples

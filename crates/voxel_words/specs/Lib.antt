@@ -1,2 +1,0 @@
-pub mod Voxels
-pub mod Laws
