@@ -1,14 +1,14 @@
 -- Columns by cells, and the rows that they are of.
 use Rattle.std.proofs.Common.{◌≡◌, ◌≢◌, ℕ, zero, suc, ◌+◌, ◌-◌, ◌≤◌, ◌<◌, List, [], ◌∷◌, Bool, true, false, cond, ◌||◌, eqb, length, map, drop, replicate, get_or, set, refl, ap, sym, ◌∙◌, arith, subst}
 use Rattle.std.specs.List.{range_with_len}
-use Rattle.std.proofs.lemmas.Bool.{eq-eqb}
+use Rattle.std.proofs.lemmas.Bool.{eq-eqb, ne_eqb}
 use Rattle.std.proofs.lemmas.List.FromFn.{length-map-range_with_len, get_or-map-range_with_len}
 use Rattle.small_field.specs.Field.{Ops, IsField}
 use Rattle.linear_laws.specs.Vectors.{dot, column, entry, bump, IsVector, IsMatrix}
 use Rattle.linear_laws.proofs.Dot.{zero_below, dot_zeros, dot_comm, add_zero}
 use Rattle.linear_laws.proofs.Bump.{dot_bumped}
 use Rattle.face_poset.specs.Words.{upto, holds}
-use Rattle.face_poset.proofs.Members.{set-map-upto, differ}
+use Rattle.number_lists.proofs.CallerLemmas.{set-map-upto}
 use Rattle.critical_complex.specs.Columns.{coefficient, row_from, rows_from, sum_on, IsColumn, AreColumns}
 
 pub column_map : (g : ℕ → List ℕ) (j : ℕ) (xs : List ℕ) → column j (map g xs) ≡ map (λ a. get_or (g a) j 0) xs
@@ -91,7 +91,7 @@ module _ (F : Ops) where
         let at : get_or D (c - 1) 0 ≡ 0 = get_or-map-range_with_len (coefficient cs vs) 1 n (c - 1) c 0 (omega arith) (omega arith) ∙ coefficient_none cs vs c fresh in
         ap (set D (c - 1)) (ap (λ (x : ℕ). F.add x v) at ∙ L.zero_add v lv)
         ∙ set-map-upto (coefficient cs vs) (coefficient (c ∷ cs) (v ∷ vs)) n c v low high (ap (λ (b : Bool). cond b v (coefficient cs vs c)) (eq-eqb c c refl))
-        (λ f ne. sym (ap (λ (b : Bool). cond b v (coefficient cs vs f)) (differ c f (λ e. ne (sym e)))))
+        (λ f ne. sym (ap (λ (b : Bool). cond b v (coefficient cs vs f)) (ne_eqb c f (λ e. ne (sym e)))))
 
     pub dot_dense : (n : ℕ) (cs vs y : List ℕ) → IsColumn F n cs vs → length y ≡ n → dot F y (map (coefficient cs vs) (upto n)) ≡ sum_on F cs vs y
     dot_dense n [] [] y h l = ap (dot F y) (map_zeros 1 n) ∙ dot_zeros F L y n
@@ -137,7 +137,7 @@ coefficient_step (c ∷ cs) (v ∷ vs) (suc i) cell lt l = coefficient_step cs v
 pub coefficient_more : (cs vs : List ℕ) (i cell : ℕ) → i < length cs → length vs ≡ length cs → get_or cs i 0 ≢ cell → coefficient (drop (i + 1) cs) (drop (i + 1) vs) cell ≡ coefficient (drop i cs) (drop i vs) cell
 coefficient_more cs vs i cell lt l ne =
     ap (λ (j : ℕ). coefficient (drop j cs) (drop j vs) cell) (let e : i + 1 ≡ suc i = omega arith in e)
-    ∙ sym (coefficient_step cs vs i cell lt l ∙ ap (λ (b : Bool). cond b (get_or vs i 0) (coefficient (drop (suc i) cs) (drop (suc i) vs) cell)) (differ (get_or cs i 0) cell ne))
+    ∙ sym (coefficient_step cs vs i cell lt l ∙ ap (λ (b : Bool). cond b (get_or vs i 0) (coefficient (drop (suc i) cs) (drop (suc i) vs) cell)) (ne_eqb (get_or cs i 0) cell ne))
 
 pub coefficient_found : (cs vs : List ℕ) (i cell : ℕ) → i < length cs → length vs ≡ length cs → get_or cs i 0 ≡ cell → coefficient (drop i cs) (drop i vs) cell ≡ get_or vs i 0
 coefficient_found cs vs i cell lt l e =

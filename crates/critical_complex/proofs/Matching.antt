@@ -1,7 +1,7 @@
 -- A valid field of a signed set is a matching between each two dimensions.
 use Rattle.std.proofs.Common.{◌≡◌, ◌≢◌, ◌⊎◌, inl, inr, ℕ, suc, ◌+◌, ◌-◌, ◌≤◌, ◌<◌, List, [], ◌∷◌, ◌++◌, Bool, true, false, cond, ◌&&◌, not, nat_lt, nat_le, eqb, filter, length, map, get_or, refl, ap, sym, ◌∙◌, arith, subst}
 use Rattle.std.specs.List.{AllByRecursion}
-use Rattle.std.proofs.lemmas.Bool.{eqb-true, eq-eqb, and_parts, not_from_false, leb-true, ltb-true, cases_eq}
+use Rattle.std.proofs.lemmas.Bool.{eqb-true, eq-eqb, and_parts, not_from_false, leb-true, ltb-true, cases_eq, ne_eqb}
 use Rattle.std.proofs.lemmas.List.FromFn.{length-map-range_with_len, get_or-map-range_with_len}
 use Rattle.small_field.specs.Field.{Ops, IsField}
 use Rattle.small_field.proofs.Laws.{neg_neg, neg_zero, zero_below}
@@ -9,7 +9,7 @@ use Rattle.linear_laws.specs.Vectors.{entry, IsVector, IsMatrix}
 use Rattle.face_poset.specs.declared.cells.Pair.{Pair}
 use Rattle.face_poset.specs.Words.{upto, holds}
 use Rattle.face_poset.specs.Poset.{count, facets_of}
-use Rattle.face_poset.proofs.Members.{differ, length-upto}
+use Rattle.number_lists.proofs.CallerLemmas.{length-upto}
 use Rattle.vector_field.specs.Pairs.{pair, is_incident, IsValid}
 use Rattle.vector_field.proofs.Members.{In, here, there, In-cases, In-filter, any-none, Contains-In}
 use Rattle.vector_field.proofs.Lined.{Lined, lined-two}
@@ -131,7 +131,7 @@ module _ (F : Ops) (L : IsField F) (space : List (List (List ℕ))) (negative : 
       let is : f ≡ q.lower = eqb-true f q.lower e in
       let same : q.dim ≡ p.dim = dq ∙ sym dp in
       let there_in : In q.lower (facets_of space (p.dim + 1) p.upper) = subst (λ (z : ℕ). In z (facets_of space (p.dim + 1) p.upper)) is (subst (λ (d : ℕ). In f (facets_of space (d + 1) p.upper)) (sym dp) m) in
-      g.free same (In-filter (λ z. not (eqb z p.lower)) there_in (not_from_false (eqb q.lower p.lower) (differ q.lower p.lower (λ z. g.apart.0 (inl (sym same, sym z)))))))
+      g.free same (In-filter (λ z. not (eqb z p.lower)) there_in (not_from_false (eqb q.lower p.lower) (ne_eqb q.lower p.lower (λ z. g.apart.0 (inl (sym same, sym z)))))))
 
   triangular : (ps : List Pair) → ((p : Pair) → In p ps → Incident space p) → Lined (Goes space) ps → Triangular (signed_rows F space negative dim) (matches_of ps dim)
   triangular [] h l = tt

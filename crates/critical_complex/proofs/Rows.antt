@@ -1,12 +1,12 @@
 -- A row of zeros becomes the coboundary of a cochain, cell by cell of those that were found.
 use Rattle.std.proofs.Common.{◌≡◌, ◌≢◌, ◌⊎◌, inl, inr, ℕ, ◌+◌, ◌<◌, ◌≤◌, List, [], Bool, true, false, ◌||◌, eqb, length, length-set, take, get_or, set, get_or-set_same, get_or-set_other, refl, ap, sym, ◌∙◌, arith, subst}
-use Rattle.std.proofs.lemmas.Bool.{cases_eq, cases_Bool, false≢true, eq-eqb}
+use Rattle.std.proofs.lemmas.Bool.{cases_eq, cases_Bool, false≢true, eq-eqb, ne_eqb}
 use Rattle.std.proofs.lemmas.List.{take_all}
 use Rattle.small_field.specs.Field.{Ops, IsField}
 use Rattle.linear_laws.specs.Vectors.{dot, column, combination, row_at, IsMatrix, IsVector}
 use Rattle.linear_laws.proofs.Span.{all_at}
 use Rattle.face_poset.specs.Words.{holds}
-use Rattle.face_poset.proofs.Members.{holds_more, differ}
+use Rattle.number_lists.proofs.CallerLemmas.{holds_more}
 use Rattle.split_laws.specs.declared.kind.Kind.{Kind}
 use Rattle.split_laws.specs.declared.kind.Kind.TheVariants.{Critical, Lower, Upper}
 use Rattle.split_laws.specs.Kinds.{criticals, part}
@@ -30,7 +30,7 @@ seen_here : (found : List ℕ) (i n : ℕ) → i < length found → get_or found
 seen_here found i n l e = holds_more found i n l ∙ or_true (holds (take i found) n) (eqb (get_or found i 0) n) (eq-eqb (get_or found i 0) n e)
 
 seen_other : (found : List ℕ) (i n : ℕ) → i < length found → get_or found i 0 ≢ n → holds (take (i + 1) found) n ≡ holds (take i found) n
-seen_other found i n l ne = holds_more found i n l ∙ or_false (holds (take i found) n) (eqb (get_or found i 0) n) (differ (get_or found i 0) n ne)
+seen_other found i n l ne = holds_more found i n l ∙ or_false (holds (take i found) n) (eqb (get_or found i 0) n) (ne_eqb (get_or found i 0) n ne)
 
 not_critical : {t : Kind} → Lower ≡ t → t ≡ Critical → ⊥
 not_critical e g = lower_no_critical (e ∙ g)

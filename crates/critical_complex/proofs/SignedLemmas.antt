@@ -6,7 +6,7 @@ use Rattle.std.proofs.lemmas.List.FromFn.{map-range_with_len_more, get_or-range_
 use Rattle.small_field.specs.Field.{Ops, IsField}
 use Rattle.face_poset.specs.Words.{upto, holds}
 use Rattle.face_poset.specs.Poset.{count, facets_of, IsSpace, IsCell}
-use Rattle.face_poset.proofs.Members.{increasing_head, increasing_tail, holds-none}
+use Rattle.number_lists.proofs.CallerLemmas.{increasing_head, increasing_tail, holds-none}
 use Rattle.std.specs.List.Sorted.{IsStrictlyIncreasing}
 use Rattle.split_laws.specs.declared.kind.Kind.{Kind}
 use Rattle.split_laws.specs.declared.kind.Kind.TheVariants.{Critical, Lower, Upper}

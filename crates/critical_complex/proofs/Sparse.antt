@@ -11,7 +11,7 @@ use Rattle.linear_laws.specs.Vectors.{dot, column, combination, entry, AreElemen
 use Rattle.linear_laws.proofs.Bump.{column_entry}
 use Rattle.linear_laws.proofs.Decide.{entry_combination}
 use Rattle.linear_laws.proofs.Span.{combination-vector, zeros-elements}
-use Rattle.face_poset.proofs.Members.{increasing_head, increasing_tail}
+use Rattle.number_lists.proofs.CallerLemmas.{increasing_head, increasing_tail}
 use Rattle.vector_field.proofs.Members.{In, In-Contains}
 use Rattle.split_laws.specs.declared.kind.Kind.{Kind}
 use Rattle.split_laws.specs.declared.kind.Kind.TheVariants.{Critical, Lower, Upper}

@@ -6,7 +6,8 @@ ghost use Rattle.critical_complex.specs.Signed.{signed_rows};
 ghost use Rattle.critical_complex.specs.Columns.{coefficient, sum_on, add_on, IsColumn, AreColumns};
 
 use crate::listing::put_signs;
-use face_poset::{Lists, Signed};
+use face_poset::Signed;
+use number_lists::Lists;
 use order_complex::Cochain;
 use small_field::Field;
 use std::alloc::{AllocError, Global};

@@ -8,11 +8,11 @@ use Rattle.std.proofs.lemmas.List.Kept.{AllPairs-from_increasing, IsStrictlyIncr
 use Rattle.std.proofs.lemmas.List.Elements.{All-append, All-map, Contains-append_left, Contains-append_right, Contains-append_cases}
 use Rattle.std.proofs.lemmas.List.Folds.{list_any_at}
 use Rattle.face_poset.specs.declared.cells.Cell.{Cell}
-use Rattle.face_poset.specs.Words.{upto, holds}
+use Rattle.number_lists.specs.Words.{upto, holds}
 use Rattle.face_poset.specs.Poset.{count, facets_of, IsSpace}
 use Rattle.face_poset.specs.Below.{cell_at, facets_of_all, closure, closed_cell, IsBelow, itself, facet}
 use Rattle.face_poset.specs.Laws.{ComesBefore}
-use Rattle.face_poset.proofs.Members.{increasing-upto, holds-upto, holds-filter, holds-from, Contains-from_holds}
+use Rattle.number_lists.proofs.CallerLemmas.{increasing-upto, holds-upto, holds-filter, Contains-holds, holds-Contains}
 use Rattle.face_poset.proofs.CofaceLaw.{and_parts}
 use Rattle.face_poset.proofs.BelowLemmas.{any_at, facet_within, facets_within}
 
@@ -84,9 +84,9 @@ cells_has dim ns n (k, l, e) = (k, omega (arith, length-map ns (cell_at dim)), g
 facets-from : (space : List (List (List ℕ))) (dim : ℕ) (ns : List ℕ) (f : ℕ) → Contains (facets_of_all space dim ns) f → (c : ℕ) × Contains ns c × Contains (facets_of space (dim + 1) c) f
 facets-from space dim ns f has =
     let p : ℕ → Bool = λ g. list_any (λ c. holds (facets_of space (dim + 1) c) g) ns in
-    let both : (p f ≡ true) × (holds (upto (count space dim)) f ≡ true) = and_parts (p f) (holds (upto (count space dim)) f) (sym (holds-filter p (upto (count space dim)) f) ∙ holds-from (filter p (upto (count space dim))) f has) in
+    let both : (p f ≡ true) × (holds (upto (count space dim)) f ≡ true) = and_parts (p f) (holds (upto (count space dim)) f) (sym (holds-filter p (upto (count space dim)) f) ∙ Contains-holds (filter p (upto (count space dim))) f has) in
     let a : (c : ℕ) × Contains ns c × (holds (facets_of space (dim + 1) c) f ≡ true) = any_at (λ c. holds (facets_of space (dim + 1) c) f) ns both.0 in
-    (a.0, a.1, Contains-from_holds (facets_of space (dim + 1) a.0) f a.2)
+    (a.0, a.1, holds-Contains (facets_of space (dim + 1) a.0) f a.2)
 
 facets-has : (space : List (List (List ℕ))) (dim : ℕ) (ns : List ℕ) (c f : ℕ) → IsSpace space → All (λ m. (1 ≤ m) × (m ≤ count space (dim + 1))) ns → Contains ns c → Contains (facets_of space (dim + 1) c) f → Contains (facets_of_all space dim ns) f
 facets-has space dim ns c f h valid has below =
@@ -95,8 +95,8 @@ facets-has space dim ns c f h valid has below =
     let w : (1 ≤ f) × (f ≤ count space (dim + 1 - 1)) = facet_within space (dim + 1) c f h (omega arith) v.0 v.1 below in
     let e : dim + 1 - 1 ≡ dim = omega arith in
     let high : f ≤ count space dim = subst (λ (m : ℕ). f ≤ count space m) e w.1 in
-    let test : p f ≡ true = list_any_at (λ m. holds (facets_of space (dim + 1) m) f) ns has.0 c has.1 (ap (λ (m : ℕ). holds (facets_of space (dim + 1) m) f) has.2 ∙ holds-from (facets_of space (dim + 1) c) f below) in
-    Contains-from_holds (filter p (upto (count space dim))) f (holds-filter p (upto (count space dim)) f ∙ (ap (λ (b : Bool). b && holds (upto (count space dim)) f) test ∙ holds-upto (count space dim) f w.0 high))
+    let test : p f ≡ true = list_any_at (λ m. holds (facets_of space (dim + 1) m) f) ns has.0 c has.1 (ap (λ (m : ℕ). holds (facets_of space (dim + 1) m) f) has.2 ∙ Contains-holds (facets_of space (dim + 1) c) f below) in
+    holds-Contains (filter p (upto (count space dim))) f (holds-filter p (upto (count space dim)) f ∙ (ap (λ (b : Bool). b && holds (upto (count space dim)) f) test ∙ holds-upto (count space dim) f w.0 high))
 
 -- all cells of a closure are below, where its first cells are
 closure-below : (space : List (List (List ℕ))) (dim cell e : ℕ) (ns : List ℕ) → ((c : ℕ) → Contains ns c → IsBelow space dim cell e c) → (d n : ℕ) → Contains (closure space e ns) (cell_at d n) → IsBelow space dim cell d n

@@ -1,15 +1,15 @@
 -- Lemmas on a cell with all its faces.
-use Rattle.std.proofs.Common.{◌≡◌, ◌≢◌, ◌≤◌, ◌+◌, ◌-◌, ◌++◌, ◌∷◌, [], ℕ, zero, suc, Bool, true, false, cond, ◌||◌, List, length, get_or, map, filter, refl, ◌∙◌, ap, arith, subst, All, Any, Contains, eqb, ◌*◌, mul-le-mul_right}
+use Rattle.std.proofs.Common.{◌≡◌, ◌≢◌, ◌≤◌, ◌+◌, ◌-◌, ◌++◌, ◌∷◌, [], ℕ, zero, suc, Bool, true, ◌||◌, List, length, get_or, map, refl, ◌∙◌, ap, arith, subst, All, Any, Contains, eqb, ◌*◌, mul-le-mul_right}
 use Rattle.std.specs.List.{flat_map, list_any}
 use Rattle.std.specs.List.Sorted.{IsStrictlyIncreasing}
 use Rattle.std.proofs.lemmas.List.{length-append, length-map, get_or_past}
 use Rattle.std.proofs.lemmas.List.Folds.{list_any-append, Any-from_list_any}
 use Rattle.std.proofs.lemmas.List.Elements.{All-filter}
 use Rattle.face_poset.specs.declared.cells.Cell.{Cell}
-use Rattle.face_poset.specs.Words.{upto, holds}
+use Rattle.number_lists.specs.Words.{upto, holds}
 use Rattle.face_poset.specs.Poset.{layer, count, cell_count, facets_of, IsCell, IsSpace}
 use Rattle.face_poset.specs.Below.{cell_at, facets_of_all, closure}
-use Rattle.face_poset.proofs.Members.{members_sorted, Contains-from_holds, same_holds, All-upto, length-upto}
+use Rattle.number_lists.proofs.CallerLemmas.{members_sorted, holds-Contains, same_holds, length-filter-le, All-upto, length-upto}
 
 pub closure-step : (space : List (List (List ℕ))) (dim : ℕ) (cells : List ℕ) → dim ≢ 0 → closure space dim cells ≡ closure space (dim - 1) (facets_of_all space (dim - 1) cells) ++ map (cell_at dim) cells
 closure-step space zero cells ne = absurd (ne refl)
@@ -46,14 +46,8 @@ sorted_facets space dim cells all xs h valid e rises keeps adds =
     let at : Contains cells a.0 = a.1 in
     let w : (1 ≤ get_or cells at.0 a.0) × (get_or cells at.0 a.0 ≤ count space (dim + 1)) = valid at.0 a.0 at.1 in
     let v : (1 ≤ a.0) × (a.0 ≤ count space (dim + 1)) = subst (λ (m : ℕ). (1 ≤ m) × (m ≤ count space (dim + 1))) at.2 w in
-    let r : (1 ≤ n) × (n ≤ count space (dim + 1 - 1)) = facet_within space (dim + 1) a.0 n h (omega arith) v.0 v.1 (Contains-from_holds (facets_of space (dim + 1) a.0) n a.2) in
+    let r : (1 ≤ n) × (n ≤ count space (dim + 1 - 1)) = facet_within space (dim + 1) a.0 n h (omega arith) v.0 v.1 (holds-Contains (facets_of space (dim + 1) a.0) n a.2) in
     subst (λ (m : ℕ). (1 ≤ n) × (n ≤ count space m)) (let q : dim + 1 - 1 ≡ dim = omega arith in q) r)
-
-pub length-filter-le : {X : Type 0} (p : X → Bool) (xs : List X) → length (filter p xs) ≤ length xs
-length-filter-le p [] = omega arith
-length-filter-le p (x ∷ xs) =
-    let rest : length (filter p xs) ≤ length xs = length-filter-le p xs in
-    elim (p x) as (λ b. length (cond b (x ∷ filter p xs) (filter p xs)) ≤ suc (length xs)) [ true ↦ omega arith | false ↦ omega arith ]
 
 pub facets_within : (space : List (List (List ℕ))) (dim : ℕ) (cells : List ℕ) → All (λ f. (1 ≤ f) × (f ≤ count space dim)) (facets_of_all space dim cells)
 facets_within space dim cells = All-filter (λ f. list_any (λ c. holds (facets_of space (dim + 1) c) f) cells) (λ f. (1 ≤ f) × (f ≤ count space dim)) (upto (count space dim)) (All-upto (count space dim))

@@ -2,18 +2,17 @@
 use Rattle.std.proofs.Common.{◌≡◌, ◌≢◌, ◌<◌, ◌≤◌, ◌+◌, ◌++◌, ◌∷◌, [], ℕ, zero, suc, Bool, true, false, not, cond, ◌||◌, eqb, ltb, List, inl, inr, length, get_or, take, filter, refl, sym, ◌∙◌, ap, arith, Contains, Ok, Err, IsPermutation}
 use Rattle.std.specs.List.{list_any, IsDistinct, refill, AllByRecursion}
 use Rattle.std.specs.List.Sorted.{IsStrictlyIncreasing, IsNonDecreasing}
-use Rattle.std.proofs.lemmas.Bool.{eq-eqb, eqb-false, ltb-false, false≢true}
+use Rattle.std.proofs.lemmas.Bool.{eq-eqb, eqb-false, ltb-false, false≢true, ne_eqb}
 use Rattle.std.proofs.lemmas.Bool.Decides.{eqb_tells}
 use Rattle.std.proofs.lemmas.List.{take_all, append-nil, drop_all}
 use Rattle.std.proofs.lemmas.List.Folds.{list_any_at}
-use Rattle.std.proofs.lemmas.List.Elements.{recursion_from_All}
 use Rattle.std.proofs.lemmas.List.Sorted.{Contains-permutation, IsPermutation-sym}
 use Rattle.std.proofs.lemmas.Map.Keys.{IsDistinct-IsPermutation, IsStrictlyIncreasing-from_distinct}
 use Rattle.face_poset.specs.declared.fault.SpaceFault.TheVariants.{BadCount, FaceOutOfRange, RepeatedFace}
-use Rattle.face_poset.specs.Words.{upto, holds}
+use Rattle.number_lists.specs.Words.{upto, holds}
 use Rattle.face_poset.specs.Below.{cell_at}
 use Rattle.face_poset.specs.Reader.{repeats, facets_from}
-use Rattle.face_poset.proofs.Members.{differ, Contains-from_holds, same_holds, increasing_head, increasing_tail, members_sorted}
+use Rattle.number_lists.proofs.CallerLemmas.{holds-Contains, same_holds, members_sorted, distinct_rising}
 
 -- a number that is 0 or above `below`
 abbrev pub is_outside : ℕ → ℕ → Bool
@@ -24,7 +23,7 @@ pub facets_checked : (dim below n t : ℕ) (fs : List ℕ) (outside twice : Bool
     → facets_from dim below n (t ∷ fs) ≡ cond outside (Err (FaceOutOfRange (cell_at dim n))) (cond twice (Err (RepeatedFace (cell_at dim n))) (Ok (filter (holds fs) (upto below))))
 facets_checked zero below n t fs outside twice low some long a b = absurd (omega arith)
 facets_checked (suc dim) below n t fs outside twice low some long a b =
-    let count : (eqb t 0 || not (eqb t (length fs))) ≡ false = ap (λ (c : Bool). c || not (eqb t (length fs))) (differ t 0 some) ∙ ap not (eq-eqb t (length fs) long) in
+    let count : (eqb t 0 || not (eqb t (length fs))) ≡ false = ap (λ (c : Bool). c || not (eqb t (length fs))) (ne_eqb t 0 some) ∙ ap not (eq-eqb t (length fs) long) in
     ap (λ (c : Bool). cond c (Err (BadCount (cell_at (suc dim) n))) (cond (list_any (is_outside below) fs) (Err (FaceOutOfRange (cell_at (suc dim) n))) (cond (repeats fs) (Err (RepeatedFace (cell_at (suc dim) n))) (Ok (filter (holds fs) (upto below)))))) count
     ∙ (ap (λ (c : Bool). cond c (Err (FaceOutOfRange (cell_at (suc dim) n))) (cond (repeats fs) (Err (RepeatedFace (cell_at (suc dim) n))) (Ok (filter (holds fs) (upto below))))) a
     ∙ ap (λ (c : Bool). cond outside (Err (FaceOutOfRange (cell_at (suc dim) n))) (cond c (Err (RepeatedFace (cell_at (suc dim) n))) (Ok (filter (holds fs) (upto below))))) b)
@@ -32,7 +31,7 @@ facets_checked (suc dim) below n t fs outside twice low some long a b =
 -- numbers that stand twice
 
 eqb_flips : (x y : ℕ) → eqb x y ≡ eqb y x
-eqb_flips x y = elim (eqb_tells x y) [ inl p ↦ p.0 ∙ sym (eq-eqb y x (sym p.1)) | inr p ↦ p.0 ∙ sym (differ y x (λ e. p.1 (sym e))) ]
+eqb_flips x y = elim (eqb_tells x y) [ inl p ↦ p.0 ∙ sym (eq-eqb y x (sym p.1)) | inr p ↦ p.0 ∙ sym (ne_eqb y x (λ e. p.1 (sym e))) ]
 
 pub or_parts : (a b : Bool) → (a || b) ≡ false → (a ≡ false) × (b ≡ false)
 or_parts true b h = absurd (false≢true (sym h))
@@ -56,12 +55,6 @@ unfolding IsDistinct
 none_twice [] h = refl
 none_twice (x ∷ xs) h = ap (λ (c : Bool). c || repeats xs) (none_same x xs h.0) ∙ none_twice xs h.1
 
-pub distinct_rising : (xs : List ℕ) → IsStrictlyIncreasing xs → IsDistinct eqb xs
-unfolding IsDistinct
-distinct_rising [] h = tt
-distinct_rising (x ∷ xs) h =
-    (recursion_from_All (λ y. eqb x y ≡ false) xs (λ k d l. differ x (get_or xs k d) (λ e. omega (arith, increasing_head x xs h k d l, e))), distinct_rising xs (increasing_tail x xs h))
-
 -- after the sort the numbers rise just where none stands twice
 
 pub rising_once : (fs sorted : List ℕ) → IsPermutation fs sorted → IsStrictlyIncreasing sorted → repeats fs ≡ false
@@ -80,7 +73,7 @@ falling_twice fs sorted k moved up l le = by_test (repeats fs) refl
 
 pub inside : (below : ℕ) (fs : List ℕ) (n : ℕ) → list_any (is_outside below) fs ≡ false → holds fs n ≡ true → (1 ≤ n) × (n ≤ below)
 inside below fs n none has =
-    let at : Contains fs n = Contains-from_holds fs n has in
+    let at : Contains fs n = holds-Contains fs n has in
     let test : is_outside below n ≡ false = ap (is_outside below) (sym at.2) ∙ fails (is_outside below) fs at.0 n at.1 none in
     let p : (eqb n 0 ≡ false) × (ltb below n ≡ false) = or_parts (eqb n 0) (ltb below n) test in
     let some : n ≢ 0 = eqb-false n 0 p.0 in

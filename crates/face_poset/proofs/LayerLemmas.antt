@@ -1,21 +1,21 @@
 -- Lemmas on the layers of a boundary list.
 use Rattle.std.proofs.Common.{◌≡◌, ◌<◌, ◌≤◌, ◌+◌, ◌-◌, ◌++◌, ◌∷◌, [], ℕ, zero, suc, Bool, true, false, not, cond, ◌||◌, ◌&&◌, eqb, ltb, List, length, get_or, take, map, filter, sum_by, refl, sym, ◌∙◌, ap, arith, subst, All, Contains, Result, Ok, Err, Some, slice_get}
 use Rattle.std.specs.List.{list_any}
-use Rattle.std.proofs.lemmas.Bool.{eq-eqb, lt-ltb, le-ltb, false≢true}
+use Rattle.std.proofs.lemmas.Bool.{eq-eqb, lt-ltb, le-ltb, false≢true, ne_eqb}
 use Rattle.std.proofs.lemmas.List.{map-append, length-map, get_or_past, length_push}
 use Rattle.std.proofs.lemmas.List.Kept.{IsStrictlyIncreasing-filter}
 use Rattle.std.proofs.lemmas.List.Elements.{All-nil, All-cons, All-filter}
 use Rattle.gap_text.specs.Value.{Value}
 use Rattle.face_poset.specs.declared.fault.SpaceFault.{SpaceFault}
 use Rattle.face_poset.specs.declared.fault.SpaceFault.TheVariants.{Empty, TooHigh, TooManyCells, BadCount, FaceOutOfRange, RepeatedFace}
-use Rattle.face_poset.specs.Words.{upto, holds}
+use Rattle.number_lists.specs.Words.{upto, holds}
 use Rattle.face_poset.specs.Poset.{layer, count, IsCell, IsSpace, IsLimited}
 use Rattle.face_poset.specs.Reader.{and_then, each_from, as_list, as_cell, is_vertex, facets_from, cell_from, layer_from, layers_from, cells_in, keep_before, trimmed, sized, space_of, repeats}
 use Rattle.face_poset.specs.Layers.{inner, kept, IsSized}
 use Rattle.face_poset.specs.Below.{cell_at}
 use Rattle.face_poset.proofs.Facets.{is_outside, inside, or_parts}
 use Rattle.face_poset.proofs.Each.{both_ok}
-use Rattle.face_poset.proofs.Members.{differ, increasing-upto, All-upto, holds-upto, holds-filter, Contains-from_holds}
+use Rattle.number_lists.proofs.CallerLemmas.{increasing-upto, All-upto, holds-upto, holds-filter, holds-Contains}
 
 -- the empty layers at the end
 
@@ -102,7 +102,7 @@ trimmed-last (l ∷ ls) h = keep-last l (trimmed ls) (trimmed-last ls) h
 pub sized-ok : (ls : List (List Value)) → IsSized ls → sized ls ≡ layers_from ls
 sized-ok ls h =
     let total : ℕ = sum_by (λ cells. length cells) ls in
-    ap (λ (b : Bool). cond b (Err Empty) (cond (ltb 4 (length ls)) (Err TooHigh) (cond (ltb 60000 total) (Err TooManyCells) (layers_from ls)))) (differ (length ls) 0 (λ e. omega (arith, h.some, e)))
+    ap (λ (b : Bool). cond b (Err Empty) (cond (ltb 4 (length ls)) (Err TooHigh) (cond (ltb 60000 total) (Err TooManyCells) (layers_from ls)))) (ne_eqb (length ls) 0 (λ e. omega (arith, h.some, e)))
     ∙ (ap (λ (b : Bool). cond b (Err TooHigh) (cond (ltb 60000 total) (Err TooManyCells) (layers_from ls))) (le-ltb 4 (length ls) h.low)
     ∙ ap (λ (b : Bool). cond b (Err TooManyCells) (layers_from ls)) (le-ltb 60000 total h.few))
 
@@ -144,7 +144,7 @@ some_facet t below (f ∷ fs) count none =
     let w : (1 ≤ f) × (f ≤ below) = inside below (f ∷ fs) f none has in
     let kept : holds (filter (holds (f ∷ fs)) (upto below)) f ≡ true =
     holds-filter (holds (f ∷ fs)) (upto below) f ∙ (ap (λ (c : Bool). c && holds (upto below) f) has ∙ holds-upto below f w.0 w.1) in
-    let at : Contains (filter (holds (f ∷ fs)) (upto below)) f = Contains-from_holds (filter (holds (f ∷ fs)) (upto below)) f kept in
+    let at : Contains (filter (holds (f ∷ fs)) (upto below)) f = holds-Contains (filter (holds (f ∷ fs)) (upto below)) f kept in
     omega (arith, at.1)
 
 facets-ok : (dim below n : ℕ) (numbers answer : List ℕ) → facets_from (suc dim) below n numbers ≡ Ok answer → IsCell below answer
@@ -294,7 +294,7 @@ pub sized-many : (tops : List Value) → 1 ≤ length (kept tops) → length (ke
 sized-many tops some low many =
     let ls : List (List Value) = kept tops in
     let total : ℕ = sum_by (λ cells. length cells) ls in
-    ap (λ (b : Bool). cond b (Err Empty) (cond (ltb 4 (length ls)) (Err TooHigh) (cond (ltb 60000 total) (Err TooManyCells) (layers_from ls)))) (differ (length ls) 0 (λ e. omega (arith, some, e)))
+    ap (λ (b : Bool). cond b (Err Empty) (cond (ltb 4 (length ls)) (Err TooHigh) (cond (ltb 60000 total) (Err TooManyCells) (layers_from ls)))) (ne_eqb (length ls) 0 (λ e. omega (arith, some, e)))
     ∙ (ap (λ (b : Bool). cond b (Err TooHigh) (cond (ltb 60000 total) (Err TooManyCells) (layers_from ls))) (le-ltb 4 (length ls) low)
     ∙ ap (λ (b : Bool). cond b (Err TooManyCells) (layers_from ls)) (lt-ltb 60000 total many))
 

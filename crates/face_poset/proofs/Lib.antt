@@ -1,15 +1,11 @@
 pub mod BelowLaw
 pub mod BelowLemmas
 pub mod CofaceLaw
-pub mod Counting
-pub mod Cuts
 pub mod Each
 pub mod Facets
 pub mod LayerLemmas
-pub mod Members
 pub mod PositionLemmas
 pub mod ReadBack
-pub mod Rooms
 pub mod SpaceLemmas
 pub mod Spelling
 pub mod TextLemmas

@@ -1,7 +1,7 @@
 -- What was printed reads as the space again.
 use Rattle.std.proofs.Common.{◌≡◌, ◌≢◌, ◌<◌, ◌≤◌, ◌+◌, ◌-◌, ◌++◌, ◌∷◌, [], ℕ, zero, suc, Bool, true, false, cond, ◌||◌, leb, ltb, List, length, get_or, map, filter, sum_by, refl, sym, ◌∙◌, ap, arith, subst, decimal, Result, Ok, All, codes}
 use Rattle.std.specs.List.{AllZip, AllByRecursion, range_with_len}
-use Rattle.std.proofs.lemmas.Bool.{leb-true, leb-false, le-ltb}
+use Rattle.std.proofs.lemmas.Bool.{leb-true, leb-false, le-ltb, ne_eqb}
 use Rattle.std.proofs.lemmas.List.{get_or_past, nil_from_length, length-map}
 use Rattle.std.proofs.lemmas.List.Folds.{list_any_none}
 use Rattle.std.proofs.lemmas.List.Elements.{All-tail}
@@ -11,15 +11,15 @@ use Rattle.gap_text.specs.Value.{Value}
 use Rattle.gap_text.specs.Grammar.{IsValueOf, Lexes, nothing, blank, plain}
 use Rattle.gap_text.proofs.Joined.{value_of-spelled}
 use Rattle.face_poset.specs.declared.fault.SpaceFault.{SpaceFault}
-use Rattle.face_poset.specs.Words.{upto, holds}
+use Rattle.number_lists.specs.Words.{upto, holds}
 use Rattle.face_poset.specs.Poset.{layer, count, dimension_of, IsDimension, IsCell, IsSpace, IsLimited}
 use Rattle.face_poset.specs.Text.{brackets, cell_text, layer_text, layer_texts, boundary_text}
 use Rattle.face_poset.specs.Reader.{and_then, each_from, as_list, as_number, as_cell, facets_from, cell_from, layer_from, layers_from, trimmed, sized, space_of}
 use Rattle.face_poset.specs.Layers.{inner, IsSized}
 use Rattle.face_poset.specs.Laws.{ReadsAs}
-use Rattle.face_poset.proofs.Members.{members_sorted, differ, Contains-from_holds, length-upto}
-use Rattle.face_poset.proofs.Facets.{is_outside, facets_checked, none_twice, distinct_rising}
-use Rattle.face_poset.proofs.BelowLemmas.{length-filter-le, count-few}
+use Rattle.number_lists.proofs.CallerLemmas.{members_sorted, holds-Contains, length-upto, distinct_rising, length-filter-le}
+use Rattle.face_poset.proofs.Facets.{is_outside, facets_checked, none_twice}
+use Rattle.face_poset.proofs.BelowLemmas.{count-few}
 use Rattle.face_poset.proofs.Values.{items-values, as_cell-is, as_list-is}
 use Rattle.face_poset.proofs.LayerLemmas.{trimmed-full, sized-ok, four-ok, space-steps, total_four}
 use Rattle.face_poset.proofs.Spelling.{SpelledAt, Spelled, ListOf, number-spelled, list-spelled}
@@ -75,7 +75,7 @@ numbers-spelled ns some h = weaker 1 (brackets (map decimal ns)) (ListOf IsNumbe
 facets_few : (below : ℕ) (facets : List ℕ) → IsCell below facets → facets ≡ filter (holds facets) (upto below)
 facets_few below facets h =
     members_sorted facets (holds facets) below h.rises (λ n. refl)
-    (λ n has. let at = Contains-from_holds facets n has in
+    (λ n has. let at = holds-Contains facets n has in
     subst (λ (m : ℕ). (1 ≤ m) × (m ≤ below)) at.2 (h.within at.0 n at.1))
 
 facets_long : (below : ℕ) (facets : List ℕ) → IsCell below facets → length facets ≤ below
@@ -154,7 +154,7 @@ cell_reads (suc dim) below n facets h =
     ∙ ap (λ (fs : List ℕ). Ok fs) (sym (facets_few below facets h))
   where
     inside : (f below : ℕ) → (1 ≤ f) × (f ≤ below) → is_outside below f ≡ false
-    inside f below w = ap (λ (b : Bool). b || ltb below f) (differ f 0 (λ e. omega (arith, w.0, e))) ∙ le-ltb below f w.1
+    inside f below w = ap (λ (b : Bool). b || ltb below f) (ne_eqb f 0 (λ e. omega (arith, w.0, e))) ∙ le-ltb below f w.1
 
 layer_reads : (space : List (List (List ℕ))) → IsSpace space → (dim : ℕ) (vs : List Value) → AllZip (IsCellValue dim) (layer space dim) vs → layer_from dim (below_in space dim) vs ≡ Ok (layer space dim)
 layer_reads space h dim vs zip =

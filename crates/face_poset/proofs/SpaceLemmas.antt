@@ -4,8 +4,8 @@ use Rattle.std.proofs.lemmas.Bool.Decides.{eqb_tells}
 use Rattle.std.proofs.lemmas.List.{get_or_past, length-set, get_or-set_same, get_or-set_other, length_push, nil_from_length}
 use Rattle.std.proofs.lemmas.List.FromFn.{length-map-range_with_len, get_or-map-range_with_len}
 use Rattle.std.proofs.lemmas.List.Elements.{All-push, All-nil, All-same}
-use Rattle.face_poset.specs.Poset.{layer, count, cell_count, cells_with, cofaces_of, IsCell, IsSpace}
-use Rattle.face_poset.specs.Cofaces.{coface_lists, coface_layers}
+use Rattle.face_poset.specs.Poset.{layer, count, cell_count, cofaces_of, IsCell, IsSpace, coface_layers}
+use Rattle.number_lists.specs.Cofaces.{cells_with, coface_lists}
 
 -- a list of cofaces
 

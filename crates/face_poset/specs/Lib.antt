@@ -1,4 +1,6 @@
-pub mod Words
+-- What the contracts mean: Poset, Positions, Reader, Laws, Signs, Text, Below.
+-- What the code keeps for itself: Layers.
+-- Words of lower crates that these speak of stand at the end.
 pub mod Poset
 pub mod Positions
 pub mod Reader
@@ -7,6 +9,5 @@ pub mod Layers
 pub mod Signs
 pub mod Text
 pub mod Below
-pub mod Cuts
-pub mod Cofaces
-pub mod Rooms
+pub use Rattle.number_lists.specs.Words
+pub use Rattle.number_lists.specs.Cofaces

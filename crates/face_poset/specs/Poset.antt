@@ -1,9 +1,9 @@
 -- Spaces: for each dimension from 0 to 3 the list of its cells, and for each cell the list of the
 -- numbers of its facets. Cells and facets are numbered from 1 in their dimension.
 -- (Lists of boundaries, as HAP keeps a regular CW-space.)
-use Rattle.std.specs.Prelude.{◌≡◌, ℕ, ◌-◌, ◌+◌, ◌≤◌, ◌<◌, List, [], length, cond, nat_le, filter, All, slice_index_or, ℤ, pos, ◌+ℤ◌, ◌-ℤ◌}
+use Rattle.std.specs.Prelude.{◌≡◌, ℕ, ◌-◌, ◌+◌, ◌≤◌, ◌<◌, List, [], ◌∷◌, length, cond, nat_le, All, slice_index_or, ℤ, pos, ◌+ℤ◌, ◌-ℤ◌}
 use Rattle.std.specs.List.Sorted.{IsStrictlyIncreasing}
-use Rattle.face_poset.specs.Words.{upto, holds}
+use Rattle.number_lists.specs.Cofaces.{cells_with, coface_lists}
 
 -- the cells of a dimension, each as the list of its facets
 abbrev pub layer : List (List (List ℕ)) → ℕ → List (List ℕ)
@@ -21,13 +21,18 @@ cell_count space = count space 0 + count space 1 + count space 2 + count space 3
 abbrev pub facets_of : List (List (List ℕ)) → (dim cell : ℕ) → List ℕ
 facets_of space dim cell = slice_index_or (layer space dim) (cell - 1) []
 
--- the numbers of those of these cells that have this facet, in increasing order
-abbrev pub cells_with : List (List ℕ) → (facet : ℕ) → List ℕ
-cells_with cells facet = filter (λ n. holds (slice_index_or cells (n - 1) []) facet) (upto (length cells))
-
 -- the cells of one dimension more of which the cell is a facet
 abbrev pub cofaces_of : List (List (List ℕ)) → (dim cell : ℕ) → List ℕ
 cofaces_of space dim cell = cells_with (layer space (dim + 1)) cell
+
+-- the lists of cofaces of all cells
+abbrev pub coface_layers : List (List (List ℕ)) → List (List (List ℕ))
+coface_layers space =
+    coface_lists (count space 0) (layer space 1)
+    ∷ coface_lists (count space 1) (layer space 2)
+    ∷ coface_lists (count space 2) (layer space 3)
+    ∷ coface_lists (count space 3) []
+    ∷ []
 
 -- a list of facets: strictly increasing, from 1 to the number of cells below, and not empty
 pub record IsCell (below : ℕ) (facets : List ℕ) : Type 0 where

@@ -10,7 +10,7 @@ use Rattle.std.specs.List.{list_any}
 use Rattle.gap_text.specs.Value.{Value, number, list, none, more, items}
 use Rattle.face_poset.specs.declared.fault.SpaceFault.{SpaceFault}
 use Rattle.face_poset.specs.declared.fault.SpaceFault.TheVariants.{Shape, Empty, TooHigh, BadCount, FaceOutOfRange, RepeatedFace, TooManyCells}
-use Rattle.face_poset.specs.Words.{upto, holds}
+use Rattle.number_lists.specs.Words.{upto, holds}
 use Rattle.face_poset.specs.Below.{cell_at}
 
 -- goes on with the answer, or stops at the fault

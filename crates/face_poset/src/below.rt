@@ -1,10 +1,9 @@
-ghost use Rattle.std.specs.Prelude.{◌≡◌, ◌≤◌, ◌+◌, ◌++◌, length, map, All, Contains, ℕ, IfOk, OnOk};
-ghost use Rattle.std.specs.List.Sorted.{IsStrictlyIncreasing};
+ghost use Rattle.std.specs.Prelude.{◌≡◌, ◌≤◌, ◌+◌, ◌++◌, length, map, All, IfOk, OnOk};
 ghost use Rattle.face_poset.specs.Poset.{count, IsSpace};
 ghost use Rattle.face_poset.specs.Below.{cell_at, facets_of_all, closure};
 
 use crate::cells::{Cell, CellList};
-use crate::lists::Lists;
+use number_lists::{Lists, sort_once};
 use std::alloc::{AllocError, Global};
 
 /// Puts these cells of a dimension and all their faces last in the list, by dimension, then by
@@ -63,14 +62,4 @@ fn lower_faces(
     }
     sort_once(&mut facets);
     Ok(facets)
-}
-
-/// Sorts the numbers, and leaves each once.
-pub(crate) fn sort_once(numbers: &mut Vec<u32>)
-    ensures rises { IsStrictlyIncreasing numbers.new.items }
-    ensures keeps { (n : ℕ) → Contains numbers.old.items n → Contains numbers.new.items n }
-    ensures adds_none { (n : ℕ) → Contains numbers.new.items n → Contains numbers.old.items n }
-{
-    numbers.sort_unstable();
-    numbers.dedup();
 }

@@ -1,8 +1,8 @@
 ghost use Rattle.std.specs.Prelude.{◌≡◌, ℕ, ◌≤◌, ◌<◌, ◌+◌, ◌-◌, ◌∷◌, ◌++◌, [], slice_set, IfOk, IfErr, OnOk, OnErr};
 ghost use Rattle.face_poset.specs.Poset.{layer, count, cell_count, IsCell};
 
-use crate::lists::Lists;
 use crate::space::{MOST_CELLS, Space};
+use number_lists::Lists;
 use std::alloc::{AllocError, Global};
 use std::marker::Model;
 use thiserror::Error;

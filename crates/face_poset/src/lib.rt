@@ -9,27 +9,22 @@ mod below;
 mod builder;
 mod cell_reader;
 mod cells;
-mod cofaces;
 mod fault;
 mod graded;
 mod laws;
-mod lists;
 mod position;
 mod printer;
 mod reader;
-mod slots;
 mod space;
 
 pub use builder::{BuildFault, Builder};
 pub use cells::{Cell, CellList, Pair};
-pub use cofaces::cofaces_in;
 pub use fault::SpaceFault;
 pub use graded::{Graded, Signed};
 pub use laws::{
     closed_cell_is_least, closed_cell_is_ordered, cofaces_are_cells_above, position_is_spelled,
     text_reads_back,
 };
-pub use lists::Lists;
 pub use position::{Position, PositionFault};
 pub use reader::from_nest;
 pub use space::Space;

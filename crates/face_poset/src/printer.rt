@@ -3,8 +3,8 @@ ghost use Rattle.hap_outside.specs.Causes.{HasCause};
 ghost use Rattle.hap_outside.specs.Writes.{Writes};
 ghost use Rattle.face_poset.specs.Text.{layers_text, layer_texts, cell_text, layer_text, commas, lead, facet_texts};
 
-use crate::lists::Lists;
 use hap_outside::{Failed, Piece, Sink, write_all, write_pieces};
+use number_lists::Lists;
 
 /// What stands before the item with this number, counted from 0.
 fn lead_at(index: usize) -> &'static [u8]

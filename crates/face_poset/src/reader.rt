@@ -6,9 +6,9 @@ ghost use Rattle.face_poset.specs.Layers.{inner, kept, IsSized};
 use crate::cell_reader::read_cell;
 use crate::cells::Cell;
 use crate::fault::SpaceFault;
-use crate::lists::Lists;
 use crate::space::{MOST_CELLS, Space};
 use gap_text::{Items, Nest};
+use number_lists::Lists;
 use std::alloc::Global;
 
 /// The most layers that a space may have.

@@ -8,11 +8,10 @@ ghost use Rattle.face_poset.specs.Poset.{count, facets_of, cofaces_of, IsSpace, 
 
 use crate::below::push_closure;
 use crate::cells::CellList;
-use crate::cofaces::cofaces_in;
 use crate::graded::Graded;
-use crate::lists::Lists;
 use crate::printer::write_layers;
 use hap_outside::{Failed, Sink};
+use number_lists::{Lists, cofaces_in};
 use std::alloc::{AllocError, Global};
 use std::marker::Model;
 
@@ -29,8 +28,7 @@ pub struct Space {
 
 impl Model for Space {
     ghost use Rattle.std.specs.Prelude.{◌≡◌, List, ℕ};
-    ghost use Rattle.face_poset.specs.Poset.{IsSpace, IsLimited};
-    ghost use Rattle.face_poset.specs.Cofaces.{coface_layers};
+    ghost use Rattle.face_poset.specs.Poset.{IsSpace, IsLimited, coface_layers};
 
     ghost Value = { List (List (List ℕ)) };
 

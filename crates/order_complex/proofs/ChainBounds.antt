@@ -7,9 +7,9 @@ use native.Mathlib.Decide.{dec_lt}
 use Prim.{yes, no}
 use Rattle.face_poset.specs.declared.cells.Cell.{Cell}
 use Rattle.face_poset.specs.Words.{upto}
-use Rattle.face_poset.specs.Poset.{count, cell_count, cells_with}
+use Rattle.face_poset.specs.Poset.{count, cell_count}
+use Rattle.number_lists.specs.Cofaces.{cells_with, IsRising}
 use Rattle.face_poset.specs.Below.{cell_at, closure, facets_of_all}
-use Rattle.face_poset.specs.Cofaces.{IsRising}
 use Rattle.order_complex.specs.Chains.{cells_before, id_of, faces_of, all_faces, chains_of, chain_count}
 use Rattle.order_complex.specs.Listing.{extensions, next_counts, counted_chains, uppers_of}
 use Rattle.order_complex.proofs.Members.{Member, map-member}

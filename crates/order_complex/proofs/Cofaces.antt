@@ -3,14 +3,15 @@ use Rattle.std.proofs.Common.{◌≡◌, ℕ, zero, suc, ◌+◌, ◌-◌, ◌<�
 use Rattle.std.specs.Option.{unwrap_or}
 use Rattle.std.specs.Str.{bytes_eq}
 use Rattle.std.specs.List.{AllByRecursion, range_with_len}
-use Rattle.std.proofs.lemmas.Bool.{eqb-true}
+use Rattle.std.proofs.lemmas.Bool.{eqb-true, ne_eqb}
 use Rattle.std.proofs.lemmas.List.{length-map, get_or-map, take_more}
 use Rattle.small_field.specs.Field.{Ops, IsField}
 use Rattle.small_field.proofs.Laws.{zero_below, add_zero, zero_mul, neg_mul, neg_zero, neg_neg}
 use Rattle.linear_laws.specs.Vectors.{dot, AreElements}
 use Rattle.face_poset.specs.Words.{upto, holds}
-use Rattle.face_poset.specs.Poset.{layer, count, facets_of, cells_with, cofaces_of}
-use Rattle.face_poset.proofs.Members.{differ, Contains-from_holds}
+use Rattle.face_poset.specs.Poset.{layer, count, facets_of, cofaces_of}
+use Rattle.number_lists.specs.Cofaces.{cells_with}
+use Rattle.number_lists.proofs.CallerLemmas.{holds-Contains}
 use Rattle.order_complex.specs.Chains.{chains_of}
 use Rattle.order_complex.specs.Cochains.{alternating, leave_out, value, mark, coboundary_at, coboundary_on, boundary}
 use Rattle.order_complex.specs.Complex.{number_or_zero, facet_numbers, facet_lists, complex_of, stands_odd, negative_in}
@@ -87,7 +88,7 @@ module _ (F : Ops) (L : IsField F) where
   deltas-zero : (t : ℕ) (ms : List ℕ) → AllByRecursion (λ m. m < t) ms → alternating F (map (delta t) ms) ≡ 0
   deltas-zero t [] h = refl
   deltas-zero t (m ∷ ms) h =
-      ap (λ b. F.add (cond b 1 0) (F.neg (alternating F (map (delta t) ms)))) (differ m t (λ e. let less : m < t = h.0 in omega arith))
+      ap (λ b. F.add (cond b 1 0) (F.neg (alternating F (map (delta t) ms)))) (ne_eqb m t (λ e. let less : m < t = h.0 in omega arith))
       ∙ ap (λ n. F.add 0 (F.neg n)) (deltas-zero t ms h.1) ∙ ap (F.add 0) (neg_zero F L) ∙ L.zero_add 0 (zero_below F L)
 
   flip : (h o : Bool) → F.add 0 (F.neg (weight F h o)) ≡ weight F h (not o)
@@ -114,7 +115,7 @@ module _ (space : List (List (List ℕ))) where
       by_test : (t : Bool) → bytes_eq x b ≡ t → t ≡ eqb (number_or_zero (chains_of space degree) x) (number_or_zero (chains_of space degree) b)
       by_test true e = sym (eq-eqb _ _ (ap (number_or_zero (chains_of space degree)) (bytes_eq-true x b e)))
       by_test false e =
-          sym (differ _ _ (λ same.
+          sym (ne_eqb _ _ (λ same.
           let p = placed (chains_of space degree) x (ordered-chains_of space degree) mx in
           let q = placed (chains_of space degree) b (ordered-chains_of space degree) mb in
           let places : p.place ≡ q.place = omega (arith, p.number, q.number, same) in
@@ -194,7 +195,7 @@ module _ (space : List (List (List ℕ))) where
       let n : ℕ = get_or (cells_with cells number) i 0 in
       let m = filter-member (λ n. holds (get_or cells (n - 1) []) number) n (upto (length cells)) (member-at (cells_with cells number) i 0 l) in
       let r = upto-member (length cells) n m.0 in
-      (r.0, omega (arith, r.1, complex-count space degree small), Contains-from_holds (get_or cells (n - 1) []) number m.1)
+      (r.0, omega (arith, r.1, complex-count space degree small), holds-Contains (get_or cells (n - 1) []) number m.1)
 
   pub count-chains : (degree : ℕ) → degree ≤ 3 → count (complex_of space) degree ≡ length (chains_of space degree)
   count-chains zero small = length-map {B = List ℕ} (chains_of space 0) (λ chain. [])

@@ -6,8 +6,9 @@ use Rattle.std.proofs.lemmas.List.Concat.{flat_map-cons, flat_map_single, length
 use Rattle.std.proofs.lemmas.Grind.{flat_map-append}
 use Rattle.std.proofs.lemmas.List.FromFn.{get_or-map-range_with_len}
 use Rattle.face_poset.specs.Words.{upto}
-use Rattle.face_poset.specs.Poset.{cell_count, cells_with}
-use Rattle.face_poset.proofs.Members.{length-upto}
+use Rattle.face_poset.specs.Poset.{cell_count}
+use Rattle.number_lists.specs.Cofaces.{cells_with}
+use Rattle.number_lists.proofs.CallerLemmas.{length-upto}
 use Rattle.order_complex.specs.Chains.{all_faces, above, chains_from, chains_of}
 use Rattle.order_complex.specs.Listing.{extensions, next_counts, uppers_of}
 use Rattle.std.proofs.lemmas.List.Sums.{sum_by-cons, sum-map}

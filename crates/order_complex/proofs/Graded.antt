@@ -8,7 +8,7 @@ use Rattle.std.proofs.lemmas.List.{length-map, length-reverse, get_or-reverse}
 use native.Mathlib.Decide.{dec_lt}
 use Prim.{yes, no}
 use Rattle.face_poset.specs.Poset.{layer, count, IsCell, IsSpace}
-use Rattle.face_poset.specs.Cofaces.{IsRising}
+use Rattle.number_lists.specs.Cofaces.{IsRising}
 use Rattle.order_complex.specs.Order.{Before, IsOrdered}
 use Rattle.order_complex.specs.Chains.{chains_of, chain_count}
 use Rattle.order_complex.specs.Cochains.{leave_out}

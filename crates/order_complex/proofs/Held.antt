@@ -1,7 +1,6 @@
 -- What the lists of `Chains` hold.
 use Rattle.std.proofs.Common.{◌≡◌, ℕ, zero, suc, ◌-◌, ◌≤◌, List, [], length, get_or, All, refl, ap, sym, ◌∙◌, subst, arith}
-use Rattle.face_poset.specs.Poset.{layer, count, cofaces_of, IsSpace}
-use Rattle.face_poset.specs.Cofaces.{coface_layers}
+use Rattle.face_poset.specs.Poset.{layer, count, cofaces_of, IsSpace, coface_layers}
 use Rattle.face_poset.proofs.SpaceLemmas.{cofaces_at}
 use Rattle.order_complex.specs.Chains.{chains_of, chain_count}
 use Rattle.order_complex.specs.Order.{IsOrdered}

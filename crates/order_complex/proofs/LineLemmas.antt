@@ -3,7 +3,7 @@ use Rattle.std.proofs.Common.{◌≡◌, ◌≢◌, ℕ, zero, suc, ◌+◌, ◌
 use Rattle.std.specs.Prelude.{⊤}
 use Rattle.std.specs.List.{AllByRecursion, list_all, range_with_len}
 use Rattle.std.specs.List.Sorted.{IsStrictlyIncreasing}
-use Rattle.std.proofs.lemmas.Bool.{eqb-true}
+use Rattle.std.proofs.lemmas.Bool.{eqb-true, ne_eqb}
 use Rattle.std.proofs.lemmas.List.{length-map}
 use Rattle.std.proofs.lemmas.List.Elements.{All-head, All-tail}
 use Rattle.small_field.specs.Field.{Ops, IsField}
@@ -11,7 +11,7 @@ use Rattle.small_field.proofs.Laws.{zero_below}
 use Rattle.linear_laws.specs.Marks.{mark}
 use Rattle.linear_laws.specs.Vectors.{combination, plus_scaled, IsVector, AreElements}
 use Rattle.face_poset.specs.Words.{upto}
-use Rattle.face_poset.proofs.Members.{differ, length-upto}
+use Rattle.number_lists.proofs.CallerLemmas.{length-upto}
 use Rattle.order_complex.specs.Chains.{chains_of}
 use Rattle.order_complex.specs.Cochains.{boundary_on, coboundary, coboundary_at, coboundary_on, evaluation}
 use Rattle.order_complex.specs.Cochains.{mark as mark_of}
@@ -37,7 +37,7 @@ element-later n x m later ne = by_test (eqb x 0)
   where
     by_test : (b : Bool) → element_at (cond b [] ((n, x) ∷ []) ++ later) m ≡ element_at later m
     by_test true = refl
-    by_test false = ap (λ t. cond t x (element_at later m)) (differ n m ne)
+    by_test false = ap (λ t. cond t x (element_at later m)) (ne_eqb n m ne)
 
 element-before : (a m : ℕ) (xs : List ℕ) → m < a → element_at (entries_from a xs) m ≡ 0
 element-before a m [] l = refl
@@ -89,14 +89,14 @@ element-none : (first end m : ℕ) (entries : List (ℕ × ℕ)) → m < first �
 unfolding Stand
 element-none first end m [] l h = refl
 element-none first end m (e ∷ entries) l h =
-    ap (λ t. cond t e.1 (element_at entries m)) (differ e.0 m (λ s. omega (arith, h.0))) ∙ element-none (e.0 + 1) end m entries (omega (arith, h.0)) h.3
+    ap (λ t. cond t e.1 (element_at entries m)) (ne_eqb e.0 m (λ s. omega (arith, h.0))) ∙ element-none (e.0 + 1) end m entries (omega (arith, h.0)) h.3
 
 no-entries : (a n : ℕ) → entries_from a (map (element_at []) (range_with_len a n)) ≡ []
 no-entries a zero = refl
 no-entries a (suc n) = no-entries (a + 1) n
 
 not-zero : (x n : ℕ) → x ≢ 0 → entry_of n x ≡ (n, x) ∷ []
-not-zero x n ne = ap (λ t. cond t [] ((n, x) ∷ [])) (differ x 0 ne)
+not-zero x n ne = ap (λ t. cond t [] ((n, x) ∷ [])) (ne_eqb x 0 ne)
 
 back-from : (a n : ℕ) (entries : List (ℕ × ℕ)) → Stand a (a + n) entries → entries_from a (map (element_at entries) (range_with_len a n)) ≡ entries
 unfolding Stand
@@ -115,7 +115,7 @@ back-from a (suc n) (e ∷ entries) h = by_test (eqb e.0 a) refl (λ es g. back-
         ∙ ap (λ es. e ∷ es)
         (ap (entries_from (a + 1))
         (map-members (element_at (e ∷ entries)) (element_at entries) (range_with_len (a + 1) n)
-        (λ m k. ap (λ t. cond t e.1 (element_at entries m)) (differ e.0 m (λ s. let r = range-member (a + 1) n m k in omega (arith, r.0, same)))))
+        (λ m k. ap (λ t. cond t e.1 (element_at entries m)) (ne_eqb e.0 m (λ s. let r = range-member (a + 1) n m k in omega (arith, r.0, same)))))
         ∙ later entries rest)
     by_test false t later =
         let ne : e.0 ≢ a = λ s. let yes : eqb e.0 a ≡ true = eq-eqb e.0 a s in cc in

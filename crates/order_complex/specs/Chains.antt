@@ -4,7 +4,8 @@ use Rattle.std.specs.Prelude.{ℕ, zero, suc, ◌+◌, List, [], ◌∷◌, map,
 use Rattle.std.specs.List.{flat_map}
 use Rattle.face_poset.specs.declared.cells.Cell.{Cell}
 use Rattle.face_poset.specs.Words.{upto}
-use Rattle.face_poset.specs.Poset.{count, cells_with}
+use Rattle.face_poset.specs.Poset.{count}
+use Rattle.number_lists.specs.Cofaces.{cells_with}
 use Rattle.face_poset.specs.Below.{cell_at, closure, facets_of_all}
 
 -- how many cells have a smaller dimension

@@ -1,6 +1,6 @@
 -- How the chains are listed, degree by degree.
 use Rattle.std.specs.Prelude.{ℕ, ◌+◌, ◌-◌, replicate, List, [], ◌∷◌, ◌++◌, map, length, slice_index, slice_index_or, sum, sum_by}
-use Rattle.face_poset.specs.Cofaces.{coface_lists}
+use Rattle.number_lists.specs.Cofaces.{coface_lists}
 use Rattle.order_complex.specs.Chains.{all_faces}
 
 -- the ids of the cells above each cell, in the order of ids

@@ -1,7 +1,6 @@
 // All chains of the order complex of a space.
 ghost use Rattle.std.specs.Prelude.{◌≡◌, ◌≤◌, ◌+◌, ◌-◌, [], All, length, reverse, slice_index_or, IfOk, IfErr, OnOk};
-ghost use Rattle.face_poset.specs.Poset.{IsSpace};
-ghost use Rattle.face_poset.specs.Cofaces.{coface_layers};
+ghost use Rattle.face_poset.specs.Poset.{IsSpace, coface_layers};
 ghost use Rattle.order_complex.specs.Order.{IsOrdered};
 ghost use Rattle.order_complex.specs.Chains.{chains_of, chain_count};
 ghost use Rattle.order_complex.specs.Complex.{complex_of, facet_layers, last_of, negative_in, position_of, stands_odd, HasId, IsRefused};
@@ -12,7 +11,8 @@ use crate::fault::ChainFault;
 use crate::layers::Layers;
 use crate::searching::find_chain;
 use crate::uppers::Uppers;
-use face_poset::{Cell, Graded, Lists, Signed, Space, cofaces_in};
+use face_poset::{Cell, Graded, Signed, Space};
+use number_lists::{Lists, cofaces_in};
 use std::alloc::{AllocError, Global};
 use std::marker::Model;
 
@@ -30,7 +30,7 @@ pub struct Chains<'a> {
 
 impl<'a> Model for Chains<'a> {
     ghost use Rattle.std.specs.Prelude.{◌≡◌, ◌≤◌, List, ℕ};
-    ghost use Rattle.face_poset.specs.Cofaces.{coface_layers};
+    ghost use Rattle.face_poset.specs.Poset.{coface_layers};
     ghost use Rattle.order_complex.specs.Chains.{chain_count};
     ghost use Rattle.order_complex.specs.Complex.{complex_of, chain_layers};
 

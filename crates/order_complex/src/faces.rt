@@ -5,7 +5,8 @@ ghost use Rattle.face_poset.specs.Poset.{count, cell_count};
 ghost use Rattle.order_complex.specs.Chains.{cells_before, id_of, faces_of, all_faces};
 ghost use Rattle.order_complex.specs.Complex.{HasId};
 
-use face_poset::{Cell, Graded, Lists, Space};
+use face_poset::{Cell, Graded, Space};
+use number_lists::Lists;
 use std::alloc::{AllocError, Global};
 
 /// How many cells have a smaller dimension.

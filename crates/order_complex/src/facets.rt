@@ -5,7 +5,7 @@ ghost use Rattle.order_complex.specs.Cochains.{leave_out};
 ghost use Rattle.order_complex.specs.Complex.{number_or_zero, facet_numbers};
 
 use crate::searching::find_chain;
-use face_poset::Lists;
+use number_lists::Lists;
 use std::alloc::{AllocError, Global};
 
 /// The number of the ids among chains in lexicographic order, counted from 1, or 0 where they are not there.

@@ -1,7 +1,7 @@
 // Four layers of lists, one for each degree from 0 to 3.
 ghost use Rattle.std.specs.Prelude.{◌≡◌, ◌∷◌, ◌≤◌, [], length, slice_index_or};
 
-use face_poset::Lists;
+use number_lists::Lists;
 use std::marker::Model;
 
 /// A list of lists of numbers for each degree from 0 to 3.

@@ -4,7 +4,7 @@ ghost use Rattle.std.specs.List.{flat_map};
 ghost use Rattle.face_poset.specs.Words.{upto};
 ghost use Rattle.order_complex.specs.Listing.{extensions, next_counts, counted_chains};
 
-use face_poset::Lists;
+use number_lists::Lists;
 use std::alloc::{AllocError, Global};
 
 /// The chains of one cell each.

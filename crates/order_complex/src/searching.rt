@@ -2,7 +2,7 @@
 ghost use Rattle.std.specs.Prelude.{◌≡◌, ◌≢◌, ◌<◌, ℕ, length, slice_index_or, [], IfSome, IsNone};
 ghost use Rattle.order_complex.specs.Order.{IsOrdered};
 
-use face_poset::Lists;
+use number_lists::Lists;
 use std::cmp::Ordering;
 
 /// The place of the ids among chains in lexicographic order, counted from 0, if they are there.

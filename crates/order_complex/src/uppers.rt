@@ -6,7 +6,8 @@ ghost use Rattle.order_complex.specs.Complex.{chain_layers};
 use crate::faces::faces_in;
 use crate::layers::Layers;
 use crate::listing::{count_chains, extended, single_cells};
-use face_poset::{Lists, Space, cofaces_in};
+use face_poset::Space;
+use number_lists::{Lists, cofaces_in};
 use std::alloc::{AllocError, Global};
 use std::marker::Model;
 

@@ -8,9 +8,9 @@ use Rattle.std.proofs.lemmas.List.Concat.{flat_map-append}
 use Rattle.std.proofs.lemmas.List.Elements.{filter-append}
 use Rattle.std.proofs.lemmas.List.Kept.{IsStrictlyIncreasing-filter}
 use Rattle.face_poset.specs.Words.{upto}
-use Rattle.face_poset.specs.Poset.{IsCell, count, cells_with}
-use Rattle.face_poset.specs.Cofaces.{coface_lists}
-use Rattle.face_poset.proofs.Members.{increasing-upto}
+use Rattle.face_poset.specs.Poset.{IsCell, count}
+use Rattle.number_lists.specs.Cofaces.{cells_with, coface_lists}
+use Rattle.number_lists.proofs.CallerLemmas.{increasing-upto}
 use Rattle.regular_check.proofs.Members.{In, at-In, In-inside}
 use Rattle.regular_check.proofs.Joined.{upto-In}
 use Rattle.permutahedral_arrays.specs.Places.{holds, facets_of}

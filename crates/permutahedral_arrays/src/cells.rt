@@ -4,7 +4,7 @@ ghost use Rattle.std.specs.List.{list_any};
 ghost use Rattle.permutahedral_arrays.specs.Places.{step, cell_at, is_present, cells_at, cells_of};
 
 use array_values::ArrayFault;
-use face_poset::Lists;
+use number_lists::Lists;
 use std::alloc::{AllocError, Global};
 
 /// The most cells that a space may have.

@@ -9,7 +9,8 @@ use crate::marks::{Grid, from_end, list_marks, steps};
 use crate::shapes::list_shapes;
 use crate::spaces::build;
 use array_values::{ArrayFault, read_bits};
-use face_poset::{Lists, Space};
+use face_poset::Space;
+use number_lists::Lists;
 use gap_text::Nest;
 use std::alloc::Global;
 

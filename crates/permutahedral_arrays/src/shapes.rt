@@ -3,7 +3,7 @@ ghost use Rattle.std.specs.Prelude.{◌≡◌, ◌≤◌, ◌++◌, IfOk, OnOk};
 ghost use Rattle.std.specs.List.{flat_map};
 ghost use Rattle.permutahedral_arrays.specs.Places.{is_below, last_of, longer, shapes_in};
 
-use face_poset::Lists;
+use number_lists::Lists;
 use std::alloc::{AllocError, Global};
 
 /// Whether the other vector is this one with a 0/1 vector that is not zero added.

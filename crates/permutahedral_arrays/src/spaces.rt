@@ -1,12 +1,13 @@
 // The space of cells that are lists of points.
 ghost use Rattle.std.specs.Prelude.{◌≡◌, ℕ, ◌≤◌, ◌<◌, ◌+◌, ◌-◌, ◌∷◌, ◌++◌, [], length, slice_set, IfOk, OnOk};
 ghost use Rattle.std.specs.Prelude.{◌==◌, All};
-ghost use Rattle.face_poset.specs.Cofaces.{coface_lists};
+ghost use Rattle.number_lists.specs.Cofaces.{coface_lists};
 ghost use Rattle.std.specs.List.{list_any};
 ghost use Rattle.face_poset.specs.Poset.{layer, count, cell_count, IsCell};
 ghost use Rattle.permutahedral_arrays.specs.Places.{holds, facets_of, layer_of, space_of};
 
-use face_poset::{BuildFault, Builder, Lists, Space, cofaces_in};
+use face_poset::{BuildFault, Builder, Space};
+use number_lists::{Lists, cofaces_in};
 use std::alloc::{AllocError, Global};
 
 /// Whether a point is among the points of a cell.

@@ -5,7 +5,7 @@ use Rattle.std.proofs.lemmas.List.FromFn.{length-map-range_with_len, get_or-map-
 use Rattle.small_field.specs.Field.{Ops, IsField}
 use Rattle.face_poset.specs.Words.{upto, holds}
 use Rattle.face_poset.specs.Poset.{count, facets_of}
-use Rattle.face_poset.proofs.Members.{length-upto}
+use Rattle.number_lists.proofs.CallerLemmas.{length-upto}
 use Rattle.order_complex.specs.Chains.{chains_of}
 use Rattle.order_complex.specs.Cochains.{leave_out, mark, coboundary_at, coboundary_on}
 use Rattle.order_complex.specs.Complex.{number_or_zero, facet_numbers, facet_lists, complex_of, stands_odd, negative_in}

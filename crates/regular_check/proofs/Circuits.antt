@@ -17,7 +17,7 @@ use Rattle.regular_check.proofs.Cells.{facets-cell}
 use Rattle.regular_check.proofs.Reach.{reaches_is}
 use Rattle.regular_check.proofs.Spreading.{length-inside}
 use Rattle.regular_check.proofs.Distinct.{cell-In}
-use Rattle.face_poset.proofs.Facets.{distinct_rising}
+use Rattle.number_lists.proofs.CallerLemmas.{distinct_rising}
 use Rattle.regular_check.proofs.Leasts.{path_on, path_back}
 use Rattle.regular_check.proofs.Rounds.{IsOther, first, second, meet_same, apart-distinct, cycle_goes}
 

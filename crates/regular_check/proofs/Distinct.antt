@@ -8,8 +8,7 @@ use Rattle.std.proofs.lemmas.List.Kept.{IsStrictlyIncreasing-filter}
 use Rattle.face_poset.specs.Words.{upto, holds}
 use Rattle.face_poset.specs.Poset.{IsCell, IsSpace, count, facets_of}
 use Rattle.face_poset.specs.Below.{facets_of_all}
-use Rattle.face_poset.proofs.Members.{increasing-upto, holds-upto}
-use Rattle.face_poset.proofs.Facets.{distinct_rising}
+use Rattle.number_lists.proofs.CallerLemmas.{increasing-upto, holds-upto, distinct_rising}
 use Rattle.regular_check.specs.Marks.{inserted, inserted_all}
 use Rattle.regular_check.proofs.Members.{In, here, there, In-filter, filter-In, any-In, any-some, holds-In, In-holds, In-at, In-left, In-right, append-In}
 use Rattle.regular_check.proofs.Inserted.{AreMore, are_more}

@@ -3,7 +3,7 @@ use Rattle.std.proofs.Common.{◌≡◌, inr, ℕ, ◌+◌, ◌<◌, ◌≤◌, 
 use Rattle.std.specs.List.{flat_map}
 use Rattle.face_poset.specs.Words.{upto, holds}
 use Rattle.face_poset.specs.Poset.{IsCell, IsSpace, count, facets_of, cofaces_of}
-use Rattle.face_poset.proofs.Members.{holds-upto, get_or-upto, length-upto}
+use Rattle.number_lists.proofs.CallerLemmas.{holds-upto, get_or-upto, length-upto}
 use Rattle.regular_check.specs.Components.{vertices, share_edge}
 use Rattle.regular_check.proofs.Members.{In, In-filter, In-inside, filter-In, any-In, any-some, holds-In, In-holds, In-at, and-left, and-right, and-both}
 use Rattle.regular_check.proofs.Cells.{facets-cell}

@@ -7,7 +7,7 @@ use Rattle.std.proofs.lemmas.List.Elements.{filter-append}
 use Rattle.std.proofs.lemmas.List.Kept.{IsStrictlyIncreasing-filter}
 use Rattle.face_poset.specs.Words.{upto, holds}
 use Rattle.face_poset.specs.Poset.{count, facets_of}
-use Rattle.face_poset.proofs.Members.{upto_more, increasing-upto, filter_same}
+use Rattle.number_lists.proofs.CallerLemmas.{upto_more, increasing-upto, filter_same}
 use Rattle.regular_check.specs.Reach.{Reaches, at_start, on}
 use Rattle.regular_check.specs.Components.{vertices, share_edge, are_joined, least_of, is_least, leasts_upto, component_of, SameComponentIsAPath}
 use Rattle.regular_check.proofs.Members.{In, In-filter, In-inside, filter-In, In-holds, at-In, In-at}

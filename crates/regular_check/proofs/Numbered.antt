@@ -1,12 +1,11 @@
 -- The numbers that are given to vertices, component by component.
 use Rattle.std.proofs.Common.{◌≡◌, ◌≢◌, inl, inr, ℕ, ◌+◌, ◌<◌, ◌≤◌, List, Bool, true, false, cond, length, get_or, map, replicate, refl, ap, sym, ◌∙◌, subst, arith}
-use Rattle.std.proofs.lemmas.Bool.{false≢true, eq-eqb, cases_lt}
+use Rattle.std.proofs.lemmas.Bool.{false≢true, eq-eqb, cases_lt, ne_eqb}
 use Rattle.std.proofs.lemmas.List.{same_lists, get_or_default, get_or-replicate, length-replicate}
 use Rattle.std.proofs.lemmas.List.FromFn.{length-map-range_with_len, get_or-map-range_with_len}
 use Rattle.face_poset.specs.Words.{upto, holds}
 use Rattle.face_poset.specs.Poset.{count}
-use Rattle.face_poset.proofs.Members.{differ, length-upto}
-use Rattle.face_poset.proofs.BelowLemmas.{length-filter-le}
+use Rattle.number_lists.proofs.CallerLemmas.{length-upto, length-filter-le}
 use Rattle.regular_check.specs.Components.{vertices, are_joined, least_of, is_least, leasts_upto, component_of, component_count}
 use Rattle.regular_check.proofs.Members.{In}
 use Rattle.regular_check.proofs.Joined.{In-upto, upto-In}
@@ -41,7 +40,7 @@ module _ (space : List (List (List ℕ))) where
     numbered_idle some =
         record {
           long = h.long;
-          counted = h.counted ∙ (omega (arith, passing-more (is_least space) index ∙ ap (λ (b : Bool). leasts_upto space index + cond b 1 0) (differ (least_of space (index + 1)) (index + 1) not_least)));
+          counted = h.counted ∙ (omega (arith, passing-more (is_least space) index ∙ ap (λ (b : Bool). leasts_upto space index + cond b 1 0) (ne_eqb (least_of space (index + 1)) (index + 1) not_least)));
           given = λ k m low. elim (cases_lt index (least_of space (k + 1))) [
             | inl q ↦ absurd (not_least (let e : least_of space (k + 1) ≡ index + 1 = omega (arith, q, low) in subst (λ (v : ℕ). least_of space v ≡ v) e (least_again space (k + 1) (vertex k m))))
             | inr q ↦ h.given k m q

@@ -2,7 +2,7 @@
 use Rattle.std.proofs.Common.{◌≡◌, ◌≢◌, ◌⊎◌, inl, inr, ℕ, zero, suc, ◌+◌, ◌<◌, ◌≤◌, List, [], ◌∷◌, ◌++◌, Bool, true, not, cond, eqb, filter, map, length, take, drop, get_or, AllPairs, refl, ap, sym, ◌∙◌, subst, arith}
 use Rattle.std.specs.List.{range_with_len, IsDistinct}
 use Rattle.std.specs.List.Sorted.{IsStrictlyIncreasing}
-use Rattle.std.proofs.lemmas.Bool.{eq-eqb}
+use Rattle.std.proofs.lemmas.Bool.{eq-eqb, ne_eqb}
 use Rattle.std.proofs.lemmas.Bool.Decides.{eqb_tells}
 use Rattle.std.proofs.lemmas.List.{same_lists, get_or-map, length-map}
 use Rattle.std.proofs.lemmas.List.FromFn.{length-map-range_with_len, get_or-map-range_with_len, map-range_with_len_more}
@@ -11,8 +11,7 @@ use Rattle.std.proofs.lemmas.Map.Keys.{IsDistinct-from_apart}
 use Rattle.face_poset.specs.Words.{holds}
 use Rattle.face_poset.specs.Poset.{IsCell, IsSpace, count, facets_of}
 use Rattle.face_poset.specs.Below.{facets_of_all}
-use Rattle.face_poset.proofs.Facets.{distinct_rising}
-use Rattle.face_poset.proofs.Members.{differ}
+use Rattle.number_lists.proofs.CallerLemmas.{distinct_rising}
 use Rattle.regular_check.specs.declared.cycles.Step.{Step}
 use Rattle.regular_check.specs.Reach.{reaches, Reaches, at_start, on}
 use Rattle.regular_check.specs.Rules.{sharing, meet, each_twice, connected}
@@ -29,7 +28,7 @@ use Rattle.regular_check.proofs.Walking.{other_first}
 
 -- ---- two numbers in a list
 
--- the list has v and u, which differ, and no other
+-- the list has v and u, which ne_eqb, and no other
 pub record IsOther (xs : List ℕ) (v u : ℕ) : Type 0 where
   pub there_too : In u xs
   pub apart : u ≢ v
@@ -57,7 +56,7 @@ other_end (a ∷ []) v e h m = absurd (omega arith)
 other_end (a ∷ b ∷ []) v e h here = subst (λ (t : Bool). IsOther (a ∷ b ∷ []) a (get_or (a ∷ b ∷ []) (cond t 1 0) 0)) (sym (eq-eqb a a refl)) (second a b (h 0 (omega arith)))
 other_end (a ∷ b ∷ []) v e h (there here) =
     let l : a < b = h 0 (omega arith) in
-    subst (λ (t : Bool). IsOther (a ∷ b ∷ []) b (get_or (a ∷ b ∷ []) (cond t 1 0) 0)) (sym (differ a b (λ q. omega (arith, l, q)))) (first a b l)
+    subst (λ (t : Bool). IsOther (a ∷ b ∷ []) b (get_or (a ∷ b ∷ []) (cond t 1 0) 0)) (sym (ne_eqb a b (λ q. omega (arith, l, q)))) (first a b l)
 other_end (a ∷ b ∷ []) v e h (there (there m)) = elim m [ ]
 other_end (a ∷ b ∷ c ∷ xs) v e h m = absurd (omega arith)
 
@@ -66,7 +65,7 @@ own_end : (fs : List ℕ) (v : ℕ) → length fs ≡ 2 → IsStrictlyIncreasing
 own_end [] v e h m = absurd (omega arith)
 own_end (a ∷ []) v e h m = absurd (omega arith)
 own_end (a ∷ b ∷ []) v e h here = ap (λ (t : Bool). get_or (a ∷ b ∷ []) (cond t 0 1) 0) (eq-eqb a a refl)
-own_end (a ∷ b ∷ []) v e h (there here) = let l : a < b = h 0 (omega arith) in ap (λ (t : Bool). get_or (a ∷ b ∷ []) (cond t 0 1) 0) (differ a b (λ q. omega (arith, l, q)))
+own_end (a ∷ b ∷ []) v e h (there here) = let l : a < b = h 0 (omega arith) in ap (λ (t : Bool). get_or (a ∷ b ∷ []) (cond t 0 1) 0) (ne_eqb a b (λ q. omega (arith, l, q)))
 own_end (a ∷ b ∷ []) v e h (there (there m)) = elim m [ ]
 own_end (a ∷ b ∷ c ∷ xs) v e h m = absurd (omega arith)
 
@@ -100,7 +99,7 @@ made-apart f n h i j d l m =
     λ e. h i j l b (sym (get_or-map-range_with_len f 0 n i i d (omega (arith, l, b)) (omega arith)) ∙ (e ∙ get_or-map-range_with_len f 0 n j j d b (omega arith)))
 
 pub apart-distinct : (xs : List ℕ) → AllPairs (λ a b. a ≢ b) xs → IsDistinct eqb xs
-apart-distinct xs h = IsDistinct-from_apart eqb xs (λ i j d l m. differ (get_or xs i d) (get_or xs j d) (h i j d l m))
+apart-distinct xs h = IsDistinct-from_apart eqb xs (λ i j d l m. ne_eqb (get_or xs i d) (get_or xs j d) (h i j d l m))
 
 -- whether two edges meet is told in either order
 meet_back : (space : List (List (List ℕ))) (a c : ℕ) → meet space 1 a c ≡ true → meet space 1 c a ≡ true

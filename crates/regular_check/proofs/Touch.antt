@@ -3,7 +3,7 @@ use Rattle.std.proofs.Common.{◌≡◌, ◌≢◌, inl, inr, ℕ, ◌+◌, ◌-
 use Rattle.std.proofs.lemmas.Bool.Decides.{eqb_tells}
 use Rattle.std.proofs.lemmas.List.{get_or-set_same, get_or-set_other, take_all}
 use Rattle.face_poset.specs.Words.{holds}
-use Rattle.face_poset.proofs.Members.{holds_more}
+use Rattle.number_lists.proofs.CallerLemmas.{holds_more}
 
 -- what stands at these numbers is changed by f
 abbrev pub IsTouched : {A : Type 0} → (d : A) → (A → A) → (numbers : List ℕ) → (old now : List A) → Type 0

@@ -2,15 +2,14 @@
 use Rattle.std.proofs.Common.{◌≡◌, ℕ, zero, suc, ◌+◌, ◌-◌, ◌<◌, ◌≤◌, List, [], ◌∷◌, ◌++◌, Bool, true, None, eqb, filter, map, length, get_or, refl, ap, sym, ◌∙◌, subst, arith}
 use Rattle.std.specs.List.{IsDistinct, list_all, list_any, flat_map}
 use Rattle.std.specs.List.Sorted.{IsStrictlyIncreasing}
-use Rattle.std.proofs.lemmas.Bool.{eqb-true, eq-eqb, false≢true}
+use Rattle.std.proofs.lemmas.Bool.{eqb-true, eq-eqb, false≢true, ne_eqb}
 use Rattle.std.proofs.lemmas.List.{length-map, get_or-map, get_or_default}
 use Rattle.std.proofs.lemmas.List.Kept.{IsStrictlyIncreasing-filter, AllPairs-from_increasing}
 use Rattle.std.proofs.lemmas.Map.Keys.{IsDistinct-from_apart}
 use Rattle.face_poset.specs.Words.{upto, holds}
 use Rattle.face_poset.specs.Poset.{IsCell, IsSpace, count, facets_of}
 use Rattle.face_poset.specs.Below.{facets_of_all}
-use Rattle.face_poset.proofs.Facets.{distinct_rising}
-use Rattle.face_poset.proofs.Members.{differ, increasing-upto}
+use Rattle.number_lists.proofs.CallerLemmas.{distinct_rising, increasing-upto}
 use Rattle.regular_check.specs.Reach.{reaches, Reaches, at_start, on}
 use Rattle.regular_check.specs.Rules.{two_ends, one_cycle, sharing, meet, each_twice, connected, faces_count, is_spherical, IsRegular}
 use Rattle.regular_check.proofs.Members.{In, here, there, In-filter, In-inside, filter-In, any-In, any-some, all-In, In-all, holds-In, In-holds, In-at, at-In, and-both}
@@ -57,7 +56,7 @@ module _ (space other : List (List (List ℕ))) (part : ℕ → ℕ → Type 0) 
       let b : j < length xs = omega (arith, m, length-map xs (φ d)) in
       let a : i < length xs = omega (arith, l, b) in
       let lt : get_or xs i 0 < get_or xs j 0 = AllPairs-from_increasing xs r i j 0 l b in
-      differ (get_or (map (φ d) xs) i k) (get_or (map (φ d) xs) j k)
+      ne_eqb (get_or (map (φ d) xs) i k) (get_or (map (φ d) xs) j k)
       (λ e.
       let q : get_or xs i 0 ≡ get_or xs j 0 = h.once d (get_or xs i 0) (get_or xs j 0) (p (get_or xs i 0) (at-In xs i 0 a)) (p (get_or xs j 0) (at-In xs j 0 b)) (sym (get_or-map (φ d) xs i 0 k a) ∙ (e ∙ get_or-map (φ d) xs j 0 k b)) in
       omega (arith, lt, q)))

@@ -2,12 +2,12 @@
 use Rattle.std.proofs.Common.{◌≡◌, ℕ, zero, suc, ◌+◌, ◌-◌, ◌<◌, ◌≤◌, List, [], ◌∷◌, ◌++◌, Bool, true, false, not, cond, eqb, filter, length, get_or, refl, ap, sym, ◌∙◌, subst, arith}
 use Rattle.std.specs.List.{list_any, sum}
 use Rattle.std.specs.List.Sorted.{IsStrictlyIncreasing}
-use Rattle.std.proofs.lemmas.Bool.{eq-eqb}
+use Rattle.std.proofs.lemmas.Bool.{eq-eqb, ne_eqb}
 use Rattle.std.proofs.lemmas.List.{append_assoc}
 use Rattle.std.proofs.lemmas.List.Kept.{IsStrictlyIncreasing-filter, AllPairs-from_increasing}
 use Rattle.face_poset.specs.Words.{upto, holds}
 use Rattle.face_poset.specs.Poset.{IsCell, count, facets_of}
-use Rattle.face_poset.proofs.Members.{differ, get_or-upto, length-upto}
+use Rattle.number_lists.proofs.CallerLemmas.{get_or-upto, length-upto}
 use Rattle.regular_check.specs.declared.cycles.Step.{Step}
 use Rattle.regular_check.specs.declared.tally.Tally.{Tally}
 use Rattle.regular_check.specs.Rules.{sharing}
@@ -31,11 +31,11 @@ other_first [] e l h m = absurd (omega arith)
 other_first (a ∷ []) e l h m = absurd (omega arith)
 other_first (a ∷ b ∷ []) e l h here =
     let lt : a < b = h 0 (omega arith) in
-    filter_first (λ x. not (eqb x a)) (a ∷ b ∷ []) 1 (omega arith) (ap not (differ b a (λ q. omega (arith, lt, q)))) (λ j m. (let z : j ≡ 0 = omega arith in ap (λ (i : ℕ). not (eqb (get_or (a ∷ b ∷ []) i 0) a)) z ∙ ap not (eq-eqb a a refl)))
+    filter_first (λ x. not (eqb x a)) (a ∷ b ∷ []) 1 (omega arith) (ap not (ne_eqb b a (λ q. omega (arith, lt, q)))) (λ j m. (let z : j ≡ 0 = omega arith in ap (λ (i : ℕ). not (eqb (get_or (a ∷ b ∷ []) i 0) a)) z ∙ ap not (eq-eqb a a refl)))
     ∙ omega (arith, sum_two a b)
 other_first (a ∷ b ∷ []) e l h (there here) =
     let lt : a < b = h 0 (omega arith) in
-    filter_first (λ x. not (eqb x b)) (a ∷ b ∷ []) 0 (omega arith) (ap not (differ a b (λ q. omega (arith, lt, q)))) (λ j m. absurd (omega arith))
+    filter_first (λ x. not (eqb x b)) (a ∷ b ∷ []) 0 (omega arith) (ap not (ne_eqb a b (λ q. omega (arith, lt, q)))) (λ j m. absurd (omega arith))
     ∙ omega (arith, sum_two a b)
 other_first (a ∷ b ∷ []) e l h (there (there m)) = elim m [ ]
 other_first (a ∷ b ∷ c ∷ xs) e l h m = absurd (omega arith)

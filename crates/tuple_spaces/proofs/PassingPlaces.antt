@@ -7,7 +7,7 @@ use Rattle.std.proofs.lemmas.Bool.Decides.{eqb_tells}
 use Rattle.std.proofs.lemmas.List.{map-id, get_or-set_same, get_or-set_other, length-append, get_or_append_left, get_or_at}
 use Rattle.std.proofs.lemmas.List.FromFn.{map-range_with_len_more, length-range_with_len}
 use Rattle.std.proofs.lemmas.List.Elements.{filter-append}
-use Rattle.face_poset.proofs.BelowLemmas.{length-filter-le}
+use Rattle.number_lists.proofs.CallerLemmas.{length-filter-le}
 use Rattle.tuple_spaces.specs.TorusPlaces.{volume, dim_at, before}
 
 pub range-more : (n : ℕ) → range_with_len 0 (n + 1) ≡ range_with_len 0 n ++ n ∷ []

@@ -2,11 +2,10 @@
 use Rattle.std.proofs.Common.{◌≡◌, ℕ, zero, suc, ◌+◌, ◌-◌, ◌*◌, ◌%◌, ◌^◌, ◌≤◌, List, [], ◌∷◌, ◌++◌, Bool, true, false, cond, eqb, filter, map, length, refl, ap, ◌∙◌, arith}
 use Rattle.std.specs.List.{range_with_len, flat_map}
 use Rattle.std.proofs.Math.Nat.{mul-le-mul_right, pow-suc, pow-zero}
-use Rattle.std.proofs.lemmas.Bool.{eq-eqb, eqb-true}
+use Rattle.std.proofs.lemmas.Bool.{eq-eqb, eqb-true, ne_eqb}
 use Rattle.std.proofs.lemmas.List.{length-append, length-map}
 use Rattle.std.proofs.lemmas.List.Concat.{flat_map-append}
 use Rattle.std.proofs.lemmas.List.Elements.{filter-append}
-use Rattle.face_poset.proofs.Members.{differ}
 use Rattle.regular_check.proofs.Passing.{same_bool}
 use Rattle.tuple_spaces.specs.Tuples.{tuples, dim_of, is_odd, cells_in, numbers_in}
 use Rattle.tuple_spaces.specs.Torus.{facets_round, torus_of, HasTorusCounts}
@@ -73,7 +72,7 @@ module _ (size : ℕ) where
       let ts : List (List ℕ) = tuples n (2 * size) in
       rows_in_turn (λ t. eqb (dim_of t) 0) (λ (c : ℕ). map (λ t. c ∷ t) ts) (many n 0) 0
       (λ c o. length-filter-map (λ t. eqb (dim_of t) 0) (λ t. eqb (dim_of t) 0) (λ t. c ∷ t) ts (λ t. ap (λ (k : ℕ). eqb k 0) (even_dim c t o)))
-      (λ c o. none_pass (λ t. eqb (dim_of t) 0) (λ t. c ∷ t) ts (λ t. ap (λ (k : ℕ). eqb k 0) (odd_dim c t o) ∙ differ (suc (dim_of t)) 0 (λ q. omega (arith, q)))) size
+      (λ c o. none_pass (λ t. eqb (dim_of t) 0) (λ t. c ∷ t) ts (λ t. ap (λ (k : ℕ). eqb k 0) (odd_dim c t o) ∙ ne_eqb (suc (dim_of t)) 0 (λ q. omega (arith, q)))) size
       ∙ omega arith
 
   one-zero : many 1 0 ≡ size
@@ -84,7 +83,7 @@ module _ (size : ℕ) where
 
   -- the empty tuple has dimension 0
   point : (d : ℕ) → many 0 (suc d) ≡ 0
-  point d = ap (λ (b : Bool). length {A = List ℕ} (cond b ([] ∷ []) [])) (differ 0 (suc d) (λ q. omega (arith, q)))
+  point d = ap (λ (b : Bool). length {A = List ℕ} (cond b ([] ∷ []) [])) (ne_eqb 0 (suc d) (λ q. omega (arith, q)))
 
   one-more : (d : ℕ) → many 1 (suc (suc d)) ≡ 0
   one-more d = many-suc 0 (suc d) ∙ (ap (λ (k : ℕ). size * k + size * many 0 (suc d)) (point (suc d)) ∙ (ap (λ (k : ℕ). size * 0 + size * k) (point d) ∙ omega arith))

@@ -1,10 +1,9 @@
 -- The places of the facets of a triple.
 use Rattle.std.proofs.Common.{◌≡◌, ◌⊎◌, inl, inr, ℕ, suc, ◌+◌, ◌-◌, ◌*◌, ◌/◌, ◌%◌, ◌<◌, ◌≤◌, List, [], ◌∷◌, ◌++◌, Bool, true, false, cond, filter, map, length, refl, ap, sym, ◌∙◌, subst, arith}
 use Rattle.std.proofs.Math.Nat.{mod-eq_of_lt, mod_self, mul_comm, mul-le-mul_right}
-use Rattle.std.proofs.lemmas.Bool.{eqb-true, cases_lt}
+use Rattle.std.proofs.lemmas.Bool.{eqb-true, cases_lt, ne_eqb}
 use Rattle.std.proofs.lemmas.Nat.{mod_below, div_below}
 use Rattle.std.proofs.lemmas.List.{map-append}
-use Rattle.face_poset.proofs.Members.{differ}
 use Rattle.regular_check.proofs.Members.{In, here, there, append-In}
 use Rattle.tuple_spaces.specs.Tuples.{dim_of, is_odd}
 use Rattle.tuple_spaces.specs.Torus.{facets_round}
@@ -24,7 +23,7 @@ pub odd-is : (c : ℕ) → is_odd c ≡ true → c % 2 ≡ 1
 odd-is c e = eqb-true (c % 2) 1 e
 
 pub even-is : (c : ℕ) → c % 2 ≡ 0 → is_odd c ≡ false
-even-is c e = differ (c % 2) 1 (λ q. omega (arith, e, q))
+even-is c e = ne_eqb (c % 2) 1 (λ q. omega (arith, e, q))
 
 pub odd-low : (c : ℕ) → is_odd c ≡ true → 1 ≤ c
 odd-low c e = let o : c % 2 ≡ 1 = odd-is c e in omega arith

@@ -7,7 +7,7 @@ use Rattle.std.proofs.lemmas.List.{get_or-map, length-map}
 use Rattle.std.proofs.lemmas.List.Kept.{IsStrictlyIncreasing-filter, AllPairs-from_increasing}
 use Rattle.std.proofs.lemmas.List.FromFn.{get_or-range_with_len, length-range_with_len, get_or-map-range_with_len}
 use Rattle.face_poset.specs.Words.{upto, holds}
-use Rattle.face_poset.proofs.Members.{same_increasing, increasing-upto, holds-from, Contains-from_holds}
+use Rattle.number_lists.proofs.CallerLemmas.{same_increasing, increasing-upto, Contains-holds, holds-Contains}
 use Rattle.regular_check.proofs.Members.{In, here, there, In-filter, In-inside, filter-In, any-In, any-some, holds-In, In-holds}
 use Rattle.regular_check.proofs.Passing.{same_bool}
 use Rattle.regular_check.proofs.Joined.{In-upto, upto-In}
@@ -150,5 +150,5 @@ pub sorted_facets : (side place : ℕ) (found sorted : List ℕ) → 0 < side �
     → ((n : ℕ) → Contains found n → Contains sorted n) → ((n : ℕ) → Contains sorted n → Contains found n) → sorted ≡ facets_at side (dim_at side place) place
 sorted_facets side place found sorted some low turns e r keeps adds_none =
     facets_are side place some low turns sorted r
-    (λ n i. subst (In n) e (holds-In found (holds-from found n (adds_none n (Contains-from_holds sorted n (In-holds i))))))
-    (λ n i. holds-In sorted (holds-from sorted n (keeps n (Contains-from_holds found n (In-holds (subst (In n) (sym e) i))))))
+    (λ n i. subst (In n) e (holds-In found (Contains-holds found n (adds_none n (holds-Contains sorted n (In-holds i))))))
+    (λ n i. holds-In sorted (Contains-holds sorted n (keeps n (holds-Contains found n (In-holds (subst (In n) (sym e) i))))))

@@ -1,11 +1,10 @@
 -- The torus in the making.
 use Rattle.std.proofs.Common.{◌≡◌, ◌≢◌, ℕ, zero, suc, ◌+◌, ◌-◌, ◌*◌, ◌/◌, ◌%◌, ◌<◌, ◌≤◌, List, [], ◌∷◌, ◌++◌, Bool, true, false, cond, eqb, map, length, get_or, set, refl, ap, sym, ◌∙◌, arith}
 use Rattle.std.specs.List.{list_any}
-use Rattle.std.proofs.lemmas.Bool.{eq-eqb}
+use Rattle.std.proofs.lemmas.Bool.{eq-eqb, ne_eqb}
 use Rattle.std.proofs.lemmas.List.{map-append, append-nil, length-map}
 use Rattle.face_poset.specs.Words.{upto}
 use Rattle.face_poset.specs.Poset.{layer, count, IsCell}
-use Rattle.face_poset.proofs.Members.{differ}
 use Rattle.regular_check.proofs.Members.{In, here, In-inside, In-at, at-In}
 use Rattle.regular_check.proofs.Joined.{upto-In}
 use Rattle.tuple_spaces.specs.Tuples.{tuples, same, is_odd, cells_in, numbers_in, layer_of, space_of}
@@ -35,7 +34,7 @@ before-other : (side dim place : ℕ) → dim_at side place ≢ dim → cells_be
 before-other side dim place ne =
     ap (map (facets_at side dim))
     (passing-more (λ p. eqb (dim_at side p) dim) place
-    ∙ (ap (λ (b : Bool). passing (λ p. eqb (dim_at side p) dim) place ++ cond b (place ∷ []) []) (differ (dim_at side place) dim ne) ∙ append-nil (passing (λ p. eqb (dim_at side p) dim) place)))
+    ∙ (ap (λ (b : Bool). passing (λ p. eqb (dim_at side p) dim) place ++ cond b (place ∷ []) []) (ne_eqb (dim_at side place) dim ne) ∙ append-nil (passing (λ p. eqb (dim_at side p) dim) place)))
 
 module _ (side : ℕ) where
   abbrev full : ℕ → List (List ℕ)

@@ -7,8 +7,7 @@ use Rattle.std.proofs.lemmas.List.{get_or-map, length-map, get_or_default}
 use Rattle.std.proofs.lemmas.List.Kept.{IsStrictlyIncreasing-filter}
 use Rattle.face_poset.specs.Words.{upto}
 use Rattle.face_poset.specs.Poset.{IsCell, IsSpace, layer, count, facets_of}
-use Rattle.face_poset.proofs.Members.{increasing-upto}
-use Rattle.face_poset.proofs.BelowLemmas.{length-filter-le}
+use Rattle.number_lists.proofs.CallerLemmas.{increasing-upto, length-filter-le}
 use Rattle.regular_check.specs.Rules.{IsRegular, two_ends, one_cycle, each_twice, connected, is_spherical}
 use Rattle.regular_check.proofs.Members.{In, In-filter, In-inside, filter-In, In-at, at-In}
 use Rattle.regular_check.proofs.Joined.{In-upto, upto-In}

@@ -7,7 +7,7 @@ use Rattle.std.proofs.lemmas.Map.Keys.{IsDistinct-push}
 use Rattle.std.proofs.lemmas.List.{get_or-replicate, length-set, get_or-set_same, get_or-set_other, length-replicate, drop_more, get_or_default}
 use Rattle.std.proofs.lemmas.Map.Made.{length-le_from_is_member}
 use Rattle.face_poset.specs.Words.{holds, upto}
-use Rattle.face_poset.proofs.Members.{holds-upto, length-upto}
+use Rattle.number_lists.proofs.CallerLemmas.{holds-upto, length-upto}
 use Rattle.vector_field.specs.Founds.{IsMarked}
 use Rattle.vector_field.proofs.Members.{In-cases, In-holds, holds-In, In-last, In-left, push-In, at-In, same_bool}
 

@@ -5,7 +5,7 @@ use Rattle.std.proofs.lemmas.Bool.{and_parts, and_from, or_cases, or_left, or_ri
 use Rattle.face_poset.specs.declared.cells.Pair.{Pair}
 use Rattle.face_poset.specs.Words.{upto, holds}
 use Rattle.face_poset.specs.Poset.{count, facets_of, cofaces_of}
-use Rattle.face_poset.proofs.Members.{holds-upto, All-upto}
+use Rattle.number_lists.proofs.CallerLemmas.{holds-upto, All-upto}
 use Rattle.vector_field.specs.Pairs.{pair, is_used, is_incident, unpaired}
 use Rattle.vector_field.specs.Paths.{GradientPath, has_path}
 use Rattle.vector_field.specs.Maximal.{IsMaximal, is_settled, is_maximal_at, is_maximal, MaximalIsExact}

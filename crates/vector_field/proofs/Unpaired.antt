@@ -6,7 +6,7 @@ use Rattle.std.proofs.lemmas.List.Elements.{filter-append}
 use Rattle.std.proofs.lemmas.List.Kept.{IsStrictlyIncreasing-filter}
 use Rattle.face_poset.specs.declared.cells.Pair.{Pair}
 use Rattle.face_poset.specs.Words.{upto}
-use Rattle.face_poset.proofs.Members.{upto_more, increasing-upto}
+use Rattle.number_lists.proofs.CallerLemmas.{upto_more, increasing-upto}
 use Rattle.vector_field.specs.Pairs.{is_used, unpaired, Field, critical_of}
 
 unpaired_more : (pairs : List Pair) (dim i : ℕ) → unpaired pairs dim (i + 1) ≡ unpaired pairs dim i ++ cond (not (is_used pairs dim (i + 1))) ((i + 1) ∷ []) []

@@ -6,7 +6,8 @@ use crate::checking::{fits, last_places};
 use crate::fault::PairFault;
 use crate::pairing::Pairing;
 use crate::partner::Partner;
-use face_poset::{Graded, Lists, Pair};
+use face_poset::{Graded, Pair};
+use number_lists::Lists;
 use std::alloc::{AllocError, Global};
 use std::marker::Model;
 

@@ -9,7 +9,7 @@ use Rattle.std.proofs.lemmas.List.Elements.{filter-append}
 use Rattle.std.proofs.lemmas.List.Kept.{IsStrictlyIncreasing-filter, AllPairs-from_increasing}
 use Rattle.face_poset.specs.Words.{upto, holds}
 use Rattle.face_poset.specs.Poset.{IsCell}
-use Rattle.face_poset.proofs.Members.{same_increasing, increasing-upto, increasing_head, increasing_tail, holds-from, Contains-from_holds}
+use Rattle.number_lists.proofs.CallerLemmas.{same_increasing, increasing-upto, increasing_head, increasing_tail, Contains-holds, holds-Contains}
 use Rattle.regular_check.proofs.Members.{In, here, In-filter, In-inside, filter-In, any-In, any-some, holds-In, In-holds, In-at, at-In}
 use Rattle.regular_check.proofs.Passing.{same_bool, not_true}
 use Rattle.regular_check.proofs.Joined.{In-upto, upto-In}
@@ -204,8 +204,8 @@ module _ (ls : List ℕ) (P : List ℕ) (some : Some ls) (inc : IsStrictlyIncrea
     sorted_facets listed sorted e r keeps adds_none =
         same_increasing sorted facets_at r rises
         (λ n. same_bool (holds sorted n) (holds facets_at n)
-        (λ h. In-holds (to_facet n (subst (In n) e (holds-In listed (holds-from listed n (adds_none n (Contains-from_holds sorted n h)))))))
-        (λ h. holds-from sorted n (keeps n (Contains-from_holds listed n (In-holds (subst (In n) (sym e) (from_facet n (holds-In facets_at h))))))))
+        (λ h. In-holds (to_facet n (subst (In n) e (holds-In listed (Contains-holds listed n (adds_none n (holds-Contains sorted n h)))))))
+        (λ h. Contains-holds sorted n (keeps n (holds-Contains listed n (In-holds (subst (In n) (sym e) (from_facet n (holds-In facets_at h))))))))
 
     -- a vertex has no facet
     pub no_facets : dim_at (strides_of ls) place ≡ 0 → numbers_in (cells_in (map (tuple_at (strides_of ls)) P) (dim_at (strides_of ls) place - 1)) (facets (tuple_at (strides_of ls) place)) ≡ []

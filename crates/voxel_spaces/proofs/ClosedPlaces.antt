@@ -10,8 +10,7 @@ use Rattle.std.proofs.lemmas.List.Folds.{list_any-append}
 use Rattle.std.proofs.lemmas.List.Kept.{IsStrictlyIncreasing-filter}
 use Rattle.std.proofs.lemmas.List.FromFn.{get_or-range_with_len, length-range_with_len}
 use Rattle.face_poset.specs.Words.{holds}
-use Rattle.face_poset.proofs.BelowLemmas.{length-filter-le}
-use Rattle.face_poset.proofs.Members.{same_increasing, holds-from, Contains-from_holds}
+use Rattle.number_lists.proofs.CallerLemmas.{length-filter-le, same_increasing, Contains-holds, holds-Contains}
 use Rattle.regular_check.proofs.Members.{In, here, there, In-filter, In-inside, filter-In, holds-In, In-holds, In-at, at-In, In-left, In-right, append-In, or-left, or-right, or-cases}
 use Rattle.regular_check.proofs.Passing.{same_bool}
 use Rattle.array_values.specs.Bits.{volume}
@@ -199,14 +198,14 @@ module _ (sizes I P : List ℕ) (s : Some sizes) (inside : (i : ℕ) → In i I 
   near_places i = face_places (strides_of (limits_of sizes)) (voxel_place (strides_of sizes) (strides_of (limits_of sizes)) i)
 
   pub found-cell : (n : ℕ) → In n P → IsCellAt sizes I s inside n
-  found-cell n i = flat-cell sizes I s inside n (holds-In (flat_map near_places I) (holds-from (flat_map near_places I) n (adds_none n (Contains-from_holds P n (In-holds i)))))
+  found-cell n i = flat-cell sizes I s inside n (holds-In (flat_map near_places I) (Contains-holds (flat_map near_places I) n (adds_none n (holds-Contains P n (In-holds i)))))
 
   pub cell-found : (n i : ℕ) → n < volume (limits_of sizes) → In i I → IsNear (voxel (tuple_at (strides_of sizes) i)) (tuple_at (strides_of (limits_of sizes)) n) → In n P
   cell-found n i l j close =
       let at : place_of L (T n) ≡ n = place-tuple L n (some_box sizes) l in
       let a : In n (map (place_of L) (faces (vox i))) = subst (λ (k : ℕ). In k (map (place_of L) (faces (vox i)))) at (any-map (place_of L) (T n) (faces (vox i)) (near-any (vox i) (T n) close)) in
       let b : In n (flat_map near_places I) = flat-In near_places i n I j (subst (In n) (sym (places-are sizes I s inside i j)) a) in
-      holds-In P (holds-from P n (keeps n (Contains-from_holds (flat_map near_places I) n (In-holds b))))
+      holds-In P (Contains-holds P n (keeps n (holds-Contains (flat_map near_places I) n (In-holds b))))
 
   pub closed-cells : (p : ℕ) → In p P → (k : ℕ) → In k (facet_places (strides_of (limits_of sizes)) p) → In k P
   closed-cells p i k j =

@@ -4,14 +4,14 @@ use Rattle.std.specs.List.Sorted.{IsStrictlyIncreasing}
 use Rattle.std.proofs.lemmas.Bool.{cases_lt}
 use Rattle.std.proofs.lemmas.List.{get_or-map}
 use Rattle.std.proofs.lemmas.List.Kept.{AllPairs-from_increasing}
-use Rattle.face_poset.proofs.Members.{holds-from, Contains-from_holds}
+use Rattle.number_lists.proofs.CallerLemmas.{Contains-holds, holds-Contains}
 use Rattle.regular_check.proofs.Members.{In, holds-In, In-holds, In-at}
 
 pub to_In : (xs : List ℕ) (x : ℕ) → Contains xs x → In x xs
-to_In xs x h = holds-In xs (holds-from xs x h)
+to_In xs x h = holds-In xs (Contains-holds xs x h)
 
 pub from_In : (xs : List ℕ) (x : ℕ) → In x xs → Contains xs x
-from_In xs x i = Contains-from_holds xs x (In-holds i)
+from_In xs x i = holds-Contains xs x (In-holds i)
 
 pub first_between : (P : List ℕ) (place : ℕ) → Contains P place → (w : ℕ) × (0 ≤ w) × (w < length P) × (get_or P w 0 ≡ place)
 first_between P place h = let r = In-at (to_In P place h) in (r.0, omega arith, r.1, r.2)

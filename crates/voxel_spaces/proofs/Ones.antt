@@ -5,7 +5,7 @@ use Rattle.std.specs.List.Sorted.{IsStrictlyIncreasing}
 use Rattle.std.proofs.lemmas.Bool.{false≢true}
 use Rattle.std.proofs.lemmas.List.{take_more, length-take-le}
 use Rattle.std.proofs.lemmas.List.FromFn.{length-range_with_len}
-use Rattle.face_poset.proofs.Members.{increasing_head, increasing_tail}
+use Rattle.number_lists.proofs.CallerLemmas.{increasing_head, increasing_tail}
 use Rattle.regular_check.proofs.Members.{In, here, there, at-In, In-at}
 use Rattle.tuple_spaces.proofs.PassingPlaces.{range-more}
 

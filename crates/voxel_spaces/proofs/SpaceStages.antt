@@ -1,10 +1,9 @@
 -- The space in the making.
 use Rattle.std.proofs.Common.{◌≡◌, ◌≢◌, ℕ, zero, suc, ◌+◌, ◌-◌, ◌<◌, ◌≤◌, List, [], ◌∷◌, ◌++◌, Bool, cond, eqb, filter, map, length, set, refl, ap, sym, ◌∙◌, arith}
-use Rattle.std.proofs.lemmas.Bool.{eq-eqb}
+use Rattle.std.proofs.lemmas.Bool.{eq-eqb, ne_eqb}
 use Rattle.std.proofs.lemmas.List.{map-append, append-nil, length-map}
 use Rattle.std.proofs.lemmas.List.Elements.{filter-append}
 use Rattle.face_poset.specs.Poset.{layer, count}
-use Rattle.face_poset.proofs.Members.{differ}
 use Rattle.tuple_spaces.specs.Tuples.{dim_of, cells_in, numbers_in, layer_of, space_of}
 use Rattle.tuple_spaces.proofs.Triples.{filter_map, map_twice}
 use Rattle.tuple_spaces.specs.Voxels.{facets}
@@ -39,7 +38,7 @@ module _ (ss all : List ℕ) where
   none_more d done p ne =
       ap (map (facets_at d))
       (filter-append (λ q. eqb (dim_at ss q) d) done (p ∷ [])
-      ∙ (ap (λ (b : Bool). filter (λ q. eqb (dim_at ss q) d) done ++ cond b (p ∷ []) []) (differ (dim_at ss p) d ne) ∙ append-nil (filter (λ q. eqb (dim_at ss q) d) done)))
+      ∙ (ap (λ (b : Bool). filter (λ q. eqb (dim_at ss q) d) done ++ cond b (p ∷ []) []) (ne_eqb (dim_at ss p) d ne) ∙ append-nil (filter (λ q. eqb (dim_at ss q) d) done)))
 
   pub stage-more : (d : ℕ) (done : List ℕ) (p : ℕ) → d ≤ 3 → dim_at ss p ≡ d
       → set (stage ss all d done) d (layer (stage ss all d done) d ++ numbers_in (cells_in (map (tuple_at ss) all) (d - 1)) (facets (tuple_at ss p)) ∷ []) ≡ stage ss all d (done ++ p ∷ [])

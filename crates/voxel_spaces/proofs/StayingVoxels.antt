@@ -10,8 +10,7 @@ use Rattle.std.proofs.lemmas.List.Elements.{filter-append}
 use Rattle.std.proofs.lemmas.List.Kept.{IsStrictlyIncreasing-filter}
 use Rattle.std.proofs.lemmas.List.FromFn.{length-map-range_with_len, get_or-map-range_with_len}
 use Rattle.face_poset.specs.Words.{holds}
-use Rattle.face_poset.proofs.BelowLemmas.{length-filter-le}
-use Rattle.face_poset.proofs.Members.{same_increasing}
+use Rattle.number_lists.proofs.CallerLemmas.{length-filter-le, same_increasing}
 use Rattle.regular_check.proofs.Members.{In, In-filter, In-inside, filter-In, holds-In, In-holds, In-at, at-In}
 use Rattle.regular_check.proofs.Passing.{same_bool}
 use Rattle.array_values.specs.Bits.{volume}

@@ -1,7 +1,7 @@
 use Rattle.std.proofs.Common.{ℕ, List, ◌+◌, ◌++◌, ◌∷◌, [], map, ap, sym, ◌∙◌}
 use Rattle.std.proofs.lemmas.List.{map-append, append_assoc}
 use Rattle.face_poset.specs.Words.{upto}
-use Rattle.face_poset.proofs.Members.{upto_more}
+use Rattle.number_lists.proofs.CallerLemmas.{upto_more}
 use Rattle.order_complex.specs.Chains.{faces_of}
 use Rattle.order_complex.proofs.faces.push_faces.Goals as goal
 

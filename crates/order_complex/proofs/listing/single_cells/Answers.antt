@@ -1,7 +1,7 @@
 use Rattle.std.proofs.Common.{◌+◌, ◌∷◌, ◌++◌, [], ap, sym, ◌∙◌, map}
 use Rattle.std.proofs.lemmas.List.{map-append}
 use Rattle.face_poset.specs.Words.{upto}
-use Rattle.face_poset.proofs.Members.{upto_more}
+use Rattle.number_lists.proofs.CallerLemmas.{upto_more}
 use Rattle.order_complex.proofs.listing.single_cells.Goals as goal
 
 pub loop-index-preserved : goal.loop-index-preserved

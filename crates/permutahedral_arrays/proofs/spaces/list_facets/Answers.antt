@@ -1,7 +1,8 @@
 use Rattle.std.proofs.Common.{◌-◌, ◌≤◌, [], ℕ, List, Bool, filter, length, get_or, ap, ◌∙◌, arith}
 use Rattle.std.proofs.lemmas.List.{take_all}
 use Rattle.std.proofs.lemmas.List.FromFn.{length-map-range_with_len}
-use Rattle.face_poset.specs.Poset.{IsCell, cells_with}
+use Rattle.face_poset.specs.Poset.{IsCell}
+use Rattle.number_lists.specs.Cofaces.{cells_with}
 use Rattle.permutahedral_arrays.specs.Places.{holds}
 use Rattle.permutahedral_arrays.proofs.Growing.{facets_among, listed-below}
 use Rattle.permutahedral_arrays.proofs.spaces.list_facets.Goals as goal

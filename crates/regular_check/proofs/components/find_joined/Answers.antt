@@ -3,7 +3,7 @@ use Rattle.std.specs.List.{flat_map}
 use Rattle.std.proofs.lemmas.List.{get_or_default}
 use Rattle.face_poset.specs.Words.{upto, holds}
 use Rattle.face_poset.specs.Poset.{IsSpace, count, facets_of, cofaces_of}
-use Rattle.face_poset.proofs.Members.{length-upto}
+use Rattle.number_lists.proofs.CallerLemmas.{length-upto}
 use Rattle.regular_check.specs.Components.{share_edge, vertices}
 use Rattle.regular_check.specs.Marks.{inserted, inserted_all}
 use Rattle.regular_check.proofs.Members.{In, In-inside, at-In}

@@ -1,6 +1,5 @@
 use Rattle.std.proofs.Common.{◌≡◌, ◌≢◌, ◌+◌, ◌≤◌, ℕ, List, [], ◌∷◌, length, Bool, true, false, not, refl, ap, sym, ◌∙◌, arith, subst, pos, ◌+ℤ◌, ◌-ℤ◌, None, Some, Result, Ok, Err, OnOk, IfErr, MatchResult}
-use Rattle.std.proofs.lemmas.Bool.{eq-eqb, false≢true}
-use Rattle.face_poset.proofs.Members.{differ}
+use Rattle.std.proofs.lemmas.Bool.{eq-eqb, false≢true, ne_eqb}
 use Rattle.face_poset.specs.Poset.{IsCell, IsSpace, count, facets_of}
 use Rattle.face_poset.specs.Below.{facets_of_all}
 use Rattle.regular_check.specs.declared.fault.RegularFault.{RegularFault}
@@ -37,7 +36,7 @@ ended space cell v e d (Err f) closed joined vs es ds kept broken =
     sym (broken.0 ∙ (ap (λ (n : ℕ). NotSphere cell ((pos n -ℤ pos e) +ℤ pos d)) vs
     ∙ (ap (λ (n : ℕ). NotSphere cell ((pos (faces_count space cell 0) -ℤ pos n) +ℤ pos d)) es
     ∙ ap (λ (n : ℕ). NotSphere cell ((pos (faces_count space cell 0) -ℤ pos (faces_count space cell 1)) +ℤ pos n)) ds))) in
-    let fails : is_spherical space cell ≡ false = differ (faces_count space cell 0 + faces_count space cell 2) (faces_count space cell 1 + 2) (λ q. broken.1 (omega (arith, vs, es, ds, q))) in
+    let fails : is_spherical space cell ≡ false = ne_eqb (faces_count space cell 0 + faces_count space cell 2) (faces_count space cell 1 + 2) (λ q. broken.1 (omega (arith, vs, es, ds, q))) in
     let all : fault_in (solid_rules space cell) ≡ Some (NotSphere cell (boundary_euler space cell)) =
     third space cell closed joined ∙ head_broken (rule (is_spherical space cell) (NotSphere cell (boundary_euler space cell))) [] fails in
     subst (IsFault (fault_in (solid_rules space cell))) moved all

@@ -1,6 +1,6 @@
 use Rattle.std.proofs.Common.{◌≡◌, ◌<◌, ◌+◌, ◌-◌, ◌^◌, ℕ, List, length, get_or, take, ap, ◌∙◌, sym, subst, arith}
 use Rattle.face_poset.specs.Poset.{IsCell}
-use Rattle.face_poset.proofs.Members.{holds-before}
+use Rattle.number_lists.proofs.CallerLemmas.{holds-before}
 use Rattle.regular_check.specs.declared.tally.Tally.{Tally}
 use Rattle.regular_check.specs.Tally.{none, with_cell, IsModest}
 use Rattle.regular_check.proofs.Touch.{IsTouched, touch-more, touch-fresh}

@@ -5,7 +5,7 @@ use Rattle.std.proofs.lemmas.List.{take_all}
 use Rattle.face_poset.specs.declared.cells.Pair.{Pair}
 use Rattle.face_poset.specs.Words.{holds}
 use Rattle.face_poset.specs.Poset.{count, facets_of, IsSpace}
-use Rattle.face_poset.proofs.Members.{holds_more}
+use Rattle.number_lists.proofs.CallerLemmas.{holds_more}
 use Rattle.vector_field.specs.CellMaps.{at}
 use Rattle.vector_field.specs.Pairs.{has_lower, is_incident, others, comes_before, counts_of}
 use Rattle.vector_field.specs.Pairings.{lengths}

@@ -1,7 +1,7 @@
 use Rattle.std.proofs.Common.{◌≡◌, ◌<◌, ◌≤◌, ◌+◌, ◌++◌, ◌∷◌, [], ℕ, List, length, map, filter, take, get_or, set, length-set, eqb, ap, sym, ◌∙◌, arith}
 use Rattle.std.proofs.lemmas.List.{get_or-set_same, take_more, map-append, length-take-le}
 use Rattle.std.specs.List.Sorted.{IsStrictlyIncreasing}
-use Rattle.face_poset.proofs.BelowLemmas.{length-filter-le}
+use Rattle.number_lists.proofs.CallerLemmas.{length-filter-le}
 use Rattle.voxel_spaces.specs.Places.{dim_at, number_among}
 use Rattle.voxel_spaces.proofs.CellNumbers.{number-is, counts-more}
 use Rattle.voxel_spaces.proofs.cells.number_all.Goals as goal

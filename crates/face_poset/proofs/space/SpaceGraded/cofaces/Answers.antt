@@ -1,6 +1,5 @@
 use Rattle.std.proofs.Common.{◌≡◌, ◌-◌, [], length, get_or, arith, ap, ◌∙◌, sym}
-use Rattle.face_poset.specs.Poset.{cofaces_of, count}
-use Rattle.face_poset.specs.Cofaces.{coface_layers}
+use Rattle.face_poset.specs.Poset.{cofaces_of, count, coface_layers}
 use Rattle.face_poset.proofs.SpaceLemmas.{cofaces_at}
 use Rattle.face_poset.proofs.space.SpaceGraded.cofaces.Goals as goal
 

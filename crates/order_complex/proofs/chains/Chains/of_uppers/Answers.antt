@@ -1,6 +1,5 @@
 use Rattle.std.proofs.Common.{ap, sym, ◌∙◌, subst}
-use Rattle.face_poset.specs.Poset.{IsSpace}
-use Rattle.face_poset.specs.Cofaces.{coface_layers}
+use Rattle.face_poset.specs.Poset.{IsSpace, coface_layers}
 use Rattle.order_complex.specs.Complex.{chain_layers}
 use Rattle.order_complex.proofs.Graded.{complex-is_space}
 use Rattle.order_complex.proofs.Held.{layers-ordered, layers-few, facets-are}

@@ -1,7 +1,0 @@
-use Rattle.std.proofs.Common.{◌≡◌, take, map}
-use Rattle.face_poset.specs.Words.{upto}
-use Rattle.face_poset.proofs.Counting.{times}
-use Rattle.face_poset.proofs.cofaces.tally.Given as goal
-
-abbrev pub invariant-loop-number : goal.invariant-loop-number
-invariant-loop-number l = l.counts.items ≡ map (λ n. times n (take l.number-index l.numbers)) (upto l.most)

@@ -1,7 +1,0 @@
-use Rattle.std.proofs.Common.{◌∙◌, sym, ap}
-use Rattle.std.specs.List.{concat}
-use Rattle.face_poset.proofs.Cuts.{concat-cut}
-use Rattle.face_poset.proofs.lists.Lists.entries.Goals as goal
-
-pub returns : goal.returns
-returns c = c.deref.ensures.value ∙ (sym (concat-cut 0 c.self.inside.ends.items c.self.inside.entries.items c.self.invariant) ∙ ap concat c.self.view_is)

@@ -1,0 +1,11 @@
+pub mod CallerLemmas
+mod Counting
+mod Cuts
+mod Distinct
+mod Increasing
+mod Inserted
+mod Marked
+mod Members
+mod Reach
+mod Rooms
+mod Touch
