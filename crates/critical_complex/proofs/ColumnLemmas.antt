@@ -5,8 +5,8 @@ use Rattle.std.proofs.lemmas.Bool.{eq-eqb, ne_eqb}
 use Rattle.std.proofs.lemmas.List.FromFn.{length-map-range_with_len, get_or-map-range_with_len}
 use Rattle.small_field.specs.Field.{Ops, IsField}
 use Rattle.linear_laws.specs.Vectors.{dot, column, entry, bump, IsVector, IsMatrix}
-use Rattle.linear_laws.proofs.Dot.{zero_below, dot_zeros, dot_comm, add_zero}
-use Rattle.linear_laws.proofs.Bump.{dot_bumped}
+use Rattle.linear_laws.proofs.CallerLemmas.{dot_zeros, dot_comm, dot_bumped}
+use Rattle.small_field.proofs.CallerLemmas.{zero_below, add_zero}
 use Rattle.face_poset.specs.Words.{upto, holds}
 use Rattle.number_lists.proofs.CallerLemmas.{set-map-upto}
 use Rattle.critical_complex.specs.Columns.{coefficient, row_from, rows_from, sum_on, IsColumn, AreColumns}

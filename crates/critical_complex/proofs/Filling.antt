@@ -3,12 +3,11 @@ use Rattle.std.proofs.Common.{◌≡◌, inl, inr, ℕ, zero, suc, ◌+◌, ◌-
 use Rattle.std.proofs.lemmas.Bool.{cases_eq}
 use Rattle.std.proofs.lemmas.Simd.{length-replicate}
 use Rattle.small_field.specs.Field.{Ops, IsField}
-use Rattle.small_field.proofs.Laws.{neg_mul}
+use Rattle.small_field.proofs.CallerLemmas.{neg_mul}
 use Rattle.linear_laws.specs.Marks.{mark}
-use Rattle.linear_laws.specs.Vectors.{dot, column, combination, plus_scaled, row_at, AreElements, IsVector, IsMatrix}
-use Rattle.linear_laws.proofs.Decide.{entry_combination}
-use Rattle.linear_laws.proofs.Span.{combination-vector, zeros-elements, plus_scaled-long}
-use Rattle.linear_laws.proofs.Dot.{dot_below}
+use Rattle.linear_laws.specs.Vectors.{dot, column, combination, plus_scaled, row_at, IsVector, IsMatrix}
+use Rattle.small_field.specs.Values.{AreElements}
+use Rattle.linear_laws.proofs.CallerLemmas.{entry_combination, combination-vector, zeros-elements, plus_scaled-long, dot_below}
 use Rattle.std.specs.List.{AllByRecursion}
 use Rattle.split_laws.specs.declared.kind.Kind.TheVariants.{Critical, Lower, Upper}
 use Rattle.critical_complex.proofs.Pairwise.{triangular_at}
@@ -17,9 +16,7 @@ use Rattle.split_laws.specs.declared.matching.Match.{Match}
 use Rattle.split_laws.specs.Kinds.{criticals, part, spread, ZeroOnUppers, HasNoUpper}
 use Rattle.split_laws.specs.Pairs.{settle}
 use Rattle.split_laws.specs.Solutions.{IsExtension, IsReducedBy, IsCleared, without}
-use Rattle.split_laws.proofs.Parts.{plus_none, part-long, spread_long, spread_elements, spread_own, spread_none}
-use Rattle.split_laws.proofs.Fields.{extended, split_of_field, cleared, settled-vector}
-use Rattle.split_laws.proofs.Solved.{extension_is_one}
+use Rattle.split_laws.proofs.CallerLemmas.{plus_none, part-long, spread_long, spread_elements, spread_own, spread_none, extended, split_of_field, cleared, settled-vector, extension_is_one}
 use Rattle.critical_complex.specs.Stages.{Stage, IsPaired, place_of}
 use Rattle.critical_complex.specs.Blanks.{HasRow}
 use Rattle.critical_complex.proofs.Placed.{place_below, part_at}

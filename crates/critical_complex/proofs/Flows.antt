@@ -3,10 +3,9 @@ use Rattle.std.proofs.Common.{◌≡◌, ℕ, zero, suc, ◌+◌, ◌-◌, ◌�
 use Rattle.std.proofs.lemmas.List.{length-take-le}
 use Rattle.std.proofs.lemmas.List.FromFn.{length-map-range_with_len}
 use Rattle.small_field.specs.Field.{Ops, IsField}
-use Rattle.linear_laws.specs.Vectors.{boundary, bump, column, dot, entry, plus_scaled, row_at, AreElements, IsMatrix}
-use Rattle.linear_laws.proofs.Bump.{dot_bumped}
-use Rattle.linear_laws.proofs.Dot.{dot_comm, dot_zeros}
-use Rattle.linear_laws.proofs.Span.{list_below}
+use Rattle.linear_laws.specs.Vectors.{boundary, bump, column, dot, entry, plus_scaled, row_at, IsMatrix}
+use Rattle.small_field.specs.Values.{AreElements}
+use Rattle.linear_laws.proofs.CallerLemmas.{dot_bumped, dot_comm, dot_zeros, list_below}
 use Rattle.field_matrix.specs.Rows.{Rows}
 use Rattle.face_poset.specs.Words.{upto}
 use Rattle.split_laws.specs.declared.kind.Kind.{Kind}
@@ -15,8 +14,7 @@ use Rattle.split_laws.specs.declared.matching.Match.{Match}
 use Rattle.split_laws.specs.Kinds.{criticals, spread}
 use Rattle.split_laws.specs.Pairs.{back_correction, carry}
 use Rattle.split_laws.specs.Solutions.{IsFlow}
-use Rattle.split_laws.proofs.Fields.{boundary_at, flowed}
-use Rattle.split_laws.proofs.Parts.{spread_long, spread_elements, spread_own, spread_none_low}
+use Rattle.split_laws.proofs.CallerLemmas.{boundary_at, flowed, spread_long, spread_elements, spread_own, spread_none_low}
 use Rattle.critical_complex.specs.Columns.{coefficient, add_on, IsColumn, AreColumns}
 use Rattle.critical_complex.specs.Stages.{Stage, IsPaired, place_of}
 use Rattle.critical_complex.proofs.ColumnLemmas.{map_zeros, more, column_is}

@@ -4,7 +4,7 @@ use Rattle.std.proofs.lemmas.Bool.{cases_eq, cases_Bool, false≢true, eq-eqb, n
 use Rattle.std.proofs.lemmas.List.{take_all}
 use Rattle.small_field.specs.Field.{Ops, IsField}
 use Rattle.linear_laws.specs.Vectors.{dot, column, combination, row_at, IsMatrix, IsVector}
-use Rattle.linear_laws.proofs.Span.{all_at}
+use Rattle.linear_laws.proofs.CallerLemmas.{all_at}
 use Rattle.face_poset.specs.Words.{holds}
 use Rattle.number_lists.proofs.CallerLemmas.{holds_more}
 use Rattle.split_laws.specs.declared.kind.Kind.{Kind}
@@ -123,7 +123,7 @@ no_columns F L s next P rows cols e z a l = record {
   long = l;
   each = λ i x li _.
       let lr : i < length rows = subst (λ (n : ℕ). i < n) (sym l) li in
-      let v : IsVector F cols (row_at rows i) = all_at F L (IsVector F cols) rows i [] lr a in
+      let v : IsVector F cols (row_at rows i) = all_at (IsVector F cols) rows i [] lr a in
       same_list (row_at rows i) (part next.kinds (combination F (length next.kinds) x s.rows)) (v.long ∙ (e ∙ sym (target_long F L (length next.kinds) s.rows next.kinds x P.matching.matrix refl)))
       (λ k lk. absurd (not_below k (subst (λ (n : ℕ). k < n) (v.long ∙ z) lk)));
 }

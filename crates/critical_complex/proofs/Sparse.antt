@@ -5,12 +5,11 @@ use Rattle.std.proofs.lemmas.Simd.{length-replicate, get_or-replicate}
 use Rattle.std.specs.List.{AllByRecursion}
 use Rattle.std.specs.List.Sorted.{IsStrictlyIncreasing}
 use Rattle.small_field.specs.Field.{Ops, IsField}
-use Rattle.small_field.proofs.Laws.{zero_below, mul_zero, zero_mul}
+use Rattle.small_field.proofs.CallerLemmas.{zero_below, mul_zero, zero_mul}
 use Rattle.linear_laws.specs.Marks.{mark}
-use Rattle.linear_laws.specs.Vectors.{dot, column, combination, entry, AreElements}
-use Rattle.linear_laws.proofs.Bump.{column_entry}
-use Rattle.linear_laws.proofs.Decide.{entry_combination}
-use Rattle.linear_laws.proofs.Span.{combination-vector, zeros-elements}
+use Rattle.linear_laws.specs.Vectors.{dot, column, combination, entry}
+use Rattle.small_field.specs.Values.{AreElements}
+use Rattle.linear_laws.proofs.CallerLemmas.{column_entry, entry_combination, combination-vector, zeros-elements}
 use Rattle.number_lists.proofs.CallerLemmas.{increasing_head, increasing_tail}
 use Rattle.vector_field.proofs.Members.{In, In-Contains}
 use Rattle.split_laws.specs.declared.kind.Kind.{Kind}
@@ -19,8 +18,7 @@ use Rattle.split_laws.specs.declared.matching.Match.{Match}
 use Rattle.split_laws.specs.Kinds.{criticals, part, ZeroOnUppers}
 use Rattle.split_laws.specs.Pairs.{Triangular, HasLower, HasUpper, kind_at, correction, settle}
 use Rattle.split_laws.specs.Solutions.{IsExtension}
-use Rattle.split_laws.proofs.Parts.{part-zeros, none-zeros}
-use Rattle.split_laws.proofs.Settle.{settle_long, settle_meets, settle_outside}
+use Rattle.split_laws.proofs.CallerLemmas.{part-zeros, none-zeros, settle_long, settle_meets, settle_outside}
 use Rattle.critical_complex.specs.Stages.{Stage, IsPaired, place_of}
 use Rattle.critical_complex.specs.Reaches.{cleared, IsFound, IsReach, Misses}
 use Rattle.critical_complex.specs.Units.{pair_at}

@@ -6,9 +6,7 @@ use Rattle.std.specs.List.{AllByRecursion}
 use Rattle.small_field.specs.Field.{Ops, IsField}
 use Rattle.linear_laws.specs.Marks.{mark}
 use Rattle.linear_laws.specs.Vectors.{combination, dot, entry, row_at, IsVector}
-use Rattle.linear_laws.proofs.Dot.{dot_comm}
-use Rattle.linear_laws.proofs.Marks.{combination-mark, dot_mark}
-use Rattle.linear_laws.proofs.Span.{all_at}
+use Rattle.linear_laws.proofs.CallerLemmas.{dot_comm, combination-mark, dot_mark, all_at}
 use Rattle.split_laws.specs.declared.kind.Kind.{Kind}
 use Rattle.split_laws.specs.declared.kind.Kind.TheVariants.{Critical, Lower, Upper}
 use Rattle.split_laws.specs.declared.matching.Match.{Match}
@@ -43,13 +41,13 @@ module _ (F : Ops) (L : IsField F) (s next : Stage) (P : IsPaired F s next) wher
       let n : ℕ = length s.kinds in
       let m : ℕ = length next.kinds in
       let r : List ℕ = row_at s.rows p.lower in
-      let a : IsVector F m r = all_at F L (IsVector F m) s.rows p.lower [] lp P.matching.matrix in
+      let a : IsVector F m r = all_at (IsVector F m) s.rows p.lower [] lp P.matching.matrix in
       ap (λ (x : List ℕ). dot F (combination F m x s.rows) (filled m v.right)) (filled_mark n p.lower u.left h.left)
       ∙ (ap (λ (x : List ℕ). dot F x (filled m v.right)) (combination-mark F L m n p.lower s.rows P.matching.matrix P.matching.long (subst (λ (k : ℕ). p.lower < k) P.matching.long lp))
       ∙ (ap (dot F r) (filled_mark m q.upper v.right k.right) ∙ (dot_comm F L r (mark m q.upper) ∙ dot_mark F L m q.upper r a lq)))
 
   upper_within : (i : ℕ) → i < length s.pairs → (pair_at s.pairs i).upper < length next.kinds
-  upper_within i lt = all_at F L (λ (p : Match). p.upper < length next.kinds) s.pairs i no_match lt P.matching.uppers
+  upper_within i lt = all_at (λ (p : Match). p.upper < length next.kinds) s.pairs i no_match lt P.matching.uppers
 
   pub triangular_is : (index : ℕ) (u : Unit) → index < length s.pairs → IsUnitOf (pair_at s.pairs index) u → IsTriangular F s next index u
   triangular_is index u lt h =

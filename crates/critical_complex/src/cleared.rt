@@ -1,6 +1,5 @@
 use field_matrix::Row;
-use order_complex::Cochain;
-use small_field::Field;
+use small_field::{Cochain, Field};
 
 /// What clears a cochain, and what is left of it.
 #[derive(Drop)]

@@ -14,8 +14,7 @@ use crate::reach::Reach;
 use crate::stage::Stage;
 use face_poset::Signed;
 use field_matrix::Matrix;
-use order_complex::Cochain;
-use small_field::Field;
+use small_field::{Cochain, Field};
 use split_laws::{Kind, Match};
 use std::alloc::{AllocError, Global};
 

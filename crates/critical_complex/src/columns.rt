@@ -8,8 +8,7 @@ ghost use Rattle.critical_complex.specs.Columns.{coefficient, sum_on, add_on, Is
 use crate::listing::put_signs;
 use face_poset::Signed;
 use number_lists::Lists;
-use order_complex::Cochain;
-use small_field::Field;
+use small_field::{Cochain, Field};
 use std::alloc::{AllocError, Global};
 use std::marker::{Model, PhantomData};
 

@@ -10,8 +10,7 @@ ghost use Rattle.critical_complex.specs.Stages.{IsPaired};
 use crate::columns::Columns;
 use crate::stage::Stage;
 use field_matrix::Row;
-use order_complex::Cochain;
-use small_field::Field;
+use small_field::{Cochain, Field};
 use split_laws::Match;
 use std::alloc::{AllocError, Global};
 

@@ -5,8 +5,7 @@ ghost use Rattle.linear_laws.specs.Vectors.{bump, entry};
 ghost use Rattle.split_laws.specs.Pairs.{Triangular, correction, settle as settled};
 
 use crate::columns::Columns;
-use order_complex::Cochain;
-use small_field::Field;
+use small_field::{Cochain, Field};
 use split_laws::Match;
 
 /// Changes a cochain at the lower of a pair, so that its coboundary at the upper is that of t.

@@ -2,7 +2,7 @@ use Rattle.std.proofs.Common.{◌≡◌, ℕ, zero, suc, ◌+◌, ◌-◌, ◌<�
 use Rattle.std.specs.List.{AllByRecursion}
 use Rattle.std.specs.List.Sorted.{IsStrictlyIncreasing}
 use Rattle.std.proofs.lemmas.Simd.{length-replicate, get_or-replicate}
-use Rattle.std.proofs.lemmas.List.{length-map, length-take-le, take-append-drop, get_or-take, get_or-drop, get_or_append_left, get_or-append_right, get_or_default, ext_get_or}
+use Rattle.std.proofs.lemmas.List.{length-map, length-take-le, take-append-drop, get_or-take, get_or-drop, get_or_append_left, get_or-append_right, get_or_default, ext_get_or, replicate-append-replicate}
 use Rattle.std.proofs.lemmas.List.Elements.{recursion_from_All, All-from_recursion}
 use native.Mathlib.Decide.{dec_lt}
 use Prim.{yes, no}
@@ -10,12 +10,8 @@ use Rattle.small_field.specs.Field.{Ops, IsField}
 use Rattle.linear_laws.specs.Marks.{mark}
 use Rattle.linear_laws.specs.Vectors.{dot, column, IsVector, IsMatrix, IsBasis, InSpan, IsIndependent, plus_scaled, combination, row_at}
 use Rattle.linear_laws.specs.Echelon.{IsReducedTo}
-use Rattle.linear_laws.proofs.Dot.{neg_zero, neg_mul, neg_unique, dot_zeros, dot_comm, dot_below, dot_added}
-use Rattle.linear_laws.proofs.Decide.{neg_neg}
-use Rattle.linear_laws.proofs.Span.{combination-vector, combination-plus, combination-zeros, plus_scaled-vector, zeros-elements, one_times, taken_back, span_rows, span_plus, span_zero, all_at, same_span, list_below}
-use Rattle.linear_laws.proofs.Dimension.{combination_twice}
-use Rattle.linear_laws.proofs.Betti.{all_append, all_take, all_drop, all_weaker, in_span_trans, combination-append}
-use Rattle.linear_laws.proofs.Marks.{dot-append, zeros_append}
+use Rattle.linear_laws.proofs.CallerLemmas.{dot_zeros, dot_comm, dot_below, dot_added, combination-vector, combination-plus, combination-zeros, plus_scaled-vector, zeros-elements, one_times, taken_back, span_rows, span_plus, span_zero, all_at, same_span, list_below, combination_twice, all_append, all_take, all_drop, all_weaker, in_span_trans, combination-append, dot-append}
+use Rattle.small_field.proofs.CallerLemmas.{neg_zero, neg_mul, neg_unique, neg_neg}
 use Rattle.field_matrix.specs.Solutions.{above, rows_at, IsComplement}
 use Rattle.field_matrix.proofs.Chosen.{above_low, above_high, Above, above_from, marks_matrix, marks_rows, read_unit, to_after, spanned}
 
@@ -23,14 +19,9 @@ all_parts : (P : List ℕ → Type 0) (xs ys : List (List ℕ)) → AllByRecursi
 all_parts P [] ys h = (tt, h)
 all_parts P (x ∷ xs) ys h = let r = all_parts P xs ys h.1 in ((h.0, r.0), r.1)
 
-at_place : (P : List ℕ → Type 0) (rows : List (List ℕ)) (p : ℕ) → AllByRecursion P rows → p < length rows → P (row_at rows p)
-at_place P [] p a lt = absurd (omega arith)
-at_place P (r ∷ rows) zero a lt = a.0
-at_place P (r ∷ rows) (suc p) a lt = at_place P rows p a.1 (omega arith)
-
 all_at_places : (P : List ℕ → Type 0) (rows : List (List ℕ)) (ps : List ℕ) → AllByRecursion P rows → AllByRecursion (λ p. p < length rows) ps → AllByRecursion P (rows_at rows ps)
 all_at_places P rows [] a h = tt
-all_at_places P rows (p ∷ ps) a h = (at_place P rows p a h.0, all_at_places P rows ps a h.1)
+all_at_places P rows (p ∷ ps) a h = (all_at P rows p [] h.0 a, all_at_places P rows ps a h.1)
 
 -- what holds of the rows of one list and of those of another at the numbers from s on
 covered : (P : List ℕ → Type 0) (s : ℕ) (sub rows : List (List ℕ)) (qs : List ℕ) → length sub ≡ s → AllByRecursion P sub → AllByRecursion P (rows_at rows (above s qs)) → AllByRecursion P (rows_at (sub ++ rows) qs)
@@ -38,7 +29,7 @@ covered P s sub rows [] long a h = tt
 covered P s sub rows (q ∷ qs) long a h =
     elim (dec_lt q s) [
       | yes l ↦ (
-        subst P (sym (get_or_append_left sub rows [] q (omega arith))) (at_place P sub q a (omega arith)),
+        subst P (sym (get_or_append_left sub rows [] q (omega arith))) (all_at P sub q [] (omega arith) a),
         covered P s sub rows qs long a (subst (λ (w : List ℕ). AllByRecursion P (rows_at rows w)) (above_low s q qs l) h),
       )
       | no n ↦
@@ -138,7 +129,7 @@ module _ (k : Ops) (f : IsField k) where
         let few : length h.pivots ≤ length after = h.reduced.few in
         let lo : i < length after = omega arith in
         let t : List ℕ = row_at after i in
-        let vt : IsVector k (s + r) t = all_at k f (IsVector k (s + r)) after i [] lo h.matrix in
+        let vt : IsVector k (s + r) t = all_at (IsVector k (s + r)) after i [] lo h.matrix in
         let lt : length t ≡ s + r = vt.long in
         let u : List ℕ = drop s t in
         let vu : IsVector k r u = record { long = length-drop s t ∙ omega arith; elements = all_drop (λ e. e < k.size) s t vt.elements } in
@@ -148,7 +139,7 @@ module _ (k : Ops) (f : IsField k) where
         (λ j lj.
         let l : j < s = let q : length (take s t) ≡ s = length-take-le s t (omega arith) in omega arith in
         get_or-take s t j 0 l ∙ (h.reduced.first i j li (omega arith) ∙ sym (get_or-replicate s j 0 0 l))) in
-        let zero : dot k t x ≡ 0 = all_at k f (λ (w : List ℕ). dot k w x ≡ 0) after i [] lo perp in
+        let zero : dot k t x ≡ 0 = all_at (λ (w : List ℕ). dot k w x ≡ 0) after i [] lo perp in
         let lfront : length (take s t) ≡ length d = length-take-le s t (omega arith) ∙ sym ld in
         let parts : dot k t x ≡ dot k u ny =
         ap (λ (w : List ℕ). dot k w x) (sym (take-append-drop s t))
@@ -200,7 +191,7 @@ module _ (k : Ops) (f : IsField k) where
           sym (take-append-drop (length bs) cs)
           ∙ (ap (λ (w : List ℕ). w ++ g) c0
           ∙ (ap (λ (w : List ℕ). replicate (length bs) 0 ++ w) g0
-          ∙ (sym (zeros_append k f (length bs) (length places)) ∙ ap (λ (j : ℕ). replicate {A = ℕ} j 0) (let q : length bs + length places ≡ length (bs ++ rows_at rows places) = omega arith in q))))
+          ∙ (replicate-append-replicate {A = ℕ} (length bs) (length places) 0 ∙ ap (λ (j : ℕ). replicate {A = ℕ} j 0) (let q : length bs + length places ≡ length (bs ++ rows_at rows places) = omega arith in q))))
 
       together_parts : AllByRecursion (InSpan k m (bs ++ rows_at rows places)) bs × AllByRecursion (InSpan k m (bs ++ rows_at rows places)) (rows_at rows places)
       together_parts = all_parts (InSpan k m (bs ++ rows_at rows places)) bs (rows_at rows places) (span_rows k f m (bs ++ rows_at rows places) together_matrix)

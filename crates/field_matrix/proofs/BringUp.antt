@@ -2,16 +2,15 @@ use Rattle.std.proofs.Common.{◌≡◌, ◌≢◌, ℕ, ◌<◌, List, [], leng
 use Rattle.std.proofs.lemmas.Simd.{get_or-zip2}
 use Rattle.small_field.specs.Field.{Ops, IsField}
 use Rattle.linear_laws.specs.Vectors.{IsVector, IsMatrix, plus_scaled, SameSpan, row_at, entry}
-use Rattle.linear_laws.proofs.Dot.{zero_below, mul_zero, zero_mul}
-use Rattle.linear_laws.proofs.Span.{addition_keeps_span, row_entry_below, plus_scaled-vector, all_at, all_set}
-use Rattle.linear_laws.proofs.Scaled.{same_or_not, one_is_not_zero, scaling_keeps_span, scaled-vector, scaled_at}
+use Rattle.small_field.proofs.CallerLemmas.{zero_below, mul_zero, zero_mul}
+use Rattle.linear_laws.proofs.CallerLemmas.{addition_keeps_span, row_entry_below, plus_scaled-vector, all_at, all_set, same_or_not, one_is_not_zero, scaling_keeps_span, scaled-vector, scaled_at}
 use Rattle.field_matrix.specs.Steps.{IsBroughtUp, ZeroBelow}
 
 module _ (k : Ops) (f : IsField k) where
   -- another row at place `rank`, zero before the column and 1 there
   brought_by_row : (cols rank col : ℕ) (before : List (List ℕ)) (w : List ℕ) → IsMatrix k cols before → rank < length before → ZeroBelow rank col before → IsVector k cols w → SameSpan k cols before (set before rank w) → ((j : ℕ) → j < col → get_or w j 0 ≡ 0) → get_or w col 0 ≡ 1 → IsBroughtUp k cols rank col before (set before rank w)
   brought_by_row cols rank col before w a lr zeros v span none one = record {
-    matrix = all_set k f (IsVector k cols) before rank w v a;
+    matrix = all_set (IsVector k cols) before rank w v a;
     long = length-set before rank w;
     span = span;
     above = λ i lt. let ne : i ≢ rank = omega arith in get_or-set_other before rank i w [] ne;
@@ -37,7 +36,7 @@ module _ (k : Ops) (f : IsField k) where
   pub brought_by_scaling : (cols rank col c : ℕ) (before : List (List ℕ)) → IsMatrix k cols before → col < cols → rank < length before → ZeroBelow rank col before → entry before rank col ≢ 0 → c ≡ k.inv (entry before rank col) → IsBroughtUp k cols rank col before (set before rank (map (k.mul c) (row_at before rank)))
   brought_by_scaling cols rank col c before a lc lr zeros ne is =
       let x : List ℕ = row_at before rank in
-      let v : IsVector k cols x = all_at k f (IsVector k cols) before rank [] lr a in
+      let v : IsVector k cols x = all_at (IsVector k cols) before rank [] lr a in
       let long : length x ≡ cols = v.long in
       let inverse = inverse_is cols rank col c before a ne is in
       brought_by_row cols rank col before (map (k.mul c) x) a lr zeros (scaled-vector k f cols c x v) (scaling_keeps_span k f cols c rank before a lr inverse.1 inverse.2).1
@@ -49,8 +48,8 @@ module _ (k : Ops) (f : IsField k) where
       let x : List ℕ = row_at before rank in
       let y : List ℕ = row_at before here in
       let lr : rank < length before = omega arith in
-      let vx : IsVector k cols x = all_at k f (IsVector k cols) before rank [] lr a in
-      let vy : IsVector k cols y = all_at k f (IsVector k cols) before here [] lh a in
+      let vx : IsVector k cols x = all_at (IsVector k cols) before rank [] lr a in
+      let vy : IsVector k cols y = all_at (IsVector k cols) before here [] lh a in
       let lx : length x ≡ cols = vx.long in
       let ly : length y ≡ cols = vy.long in
       let inverse = inverse_is cols here col c before a ne is in

@@ -1,12 +1,10 @@
 use Rattle.std.proofs.Common.{◌≡◌, ◌≢◌, ℕ, zero, suc, ◌+◌, ◌*◌, ◌<◌, ◌≤◌, ◌==◌, if◌then◌else◌, List, [], ◌∷◌, ◌++◌, length, length-append, length-drop, take, drop, replicate, get_or, get_or-set_same, get_or-set_other, append_assoc, ap, sym, ◌∙◌, arith, inl, inr}
-use Rattle.std.proofs.lemmas.List.{take-append-le, drop-append-le, take_all, take_more, get_or-drop}
+use Rattle.std.proofs.lemmas.List.{take-append-le, drop-append-le, take_all, take_more, get_or-drop, get_or-map}
 use Rattle.std.proofs.lemmas.Simd.{length-replicate, get_or-replicate}
 use Rattle.std.proofs.lemmas.Bool.Decides.{nat_tests}
 use Rattle.linear_laws.specs.Marks.{mark, identity, beside, rights}
 use Rattle.linear_laws.specs.Vectors.{row_at}
-use Rattle.linear_laws.proofs.Marks.{length-mark, length-identity, identity_row, length-beside, beside_row}
-use Rattle.linear_laws.proofs.Halves.{row_at-map}
-use Rattle.linear_laws.proofs.Scaled.{same_or_not}
+use Rattle.linear_laws.proofs.CallerLemmas.{length-mark, length-identity, identity_row, length-beside, beside_row, same_or_not}
 use Rattle.field_matrix.specs.Rows.{cut}
 
 same_is : (a b : ℕ) → a ≡ b → ◌≡◌ {A = ℕ} (if a == b then 1 else 0) 1
@@ -57,4 +55,4 @@ length-joined n rows long = length-beside rows (identity n) (long ∙ sym (lengt
 -- a row of the right halves, from a row on
 pub half_row : (width from t i : ℕ) (rows : List (List ℕ)) → i ≡ from + t → i < length rows → row_at (drop from (rights width rows)) t ≡ drop width (row_at rows i)
 half_row width from t i rows e lt =
-    get_or-drop from (rights width rows) t [] ∙ (ap (row_at (rights width rows)) (sym e) ∙ row_at-map (drop width) rows i lt)
+    get_or-drop from (rights width rows) t [] ∙ (ap (row_at (rights width rows)) (sym e) ∙ get_or-map (drop width) rows i [] [] lt)

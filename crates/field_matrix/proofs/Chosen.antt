@@ -8,18 +8,11 @@ use native.Mathlib.Decide.{dec_lt}
 use Prim.{yes, no}
 use Rattle.small_field.specs.Field.{Ops, IsField}
 use Rattle.linear_laws.specs.Marks.{mark}
-use Rattle.linear_laws.specs.Vectors.{AreElements, dot, column, boundary, IsVector, IsMatrix, InSpan, plus_scaled, combination, row_at}
+use Rattle.linear_laws.specs.Vectors.{dot, column, boundary, IsVector, IsMatrix, InSpan, plus_scaled, combination, row_at}
+use Rattle.small_field.specs.Values.{AreElements}
 use Rattle.linear_laws.specs.Echelon.{IsReducedTo, IsReducedBelow}
-use Rattle.linear_laws.proofs.Dot.{dot_zeros, dot_comm, dot_added, neg_unique, neg_mul}
-use Rattle.linear_laws.proofs.Span.{combination-vector, combination-plus, plus_scaled-vector, span_rows, all_at, list_below}
-use Rattle.linear_laws.proofs.Decide.{entry_combination, zeros_of_dots, neg_neg}
-use Rattle.linear_laws.proofs.Dimension.{combination_twice}
-use Rattle.linear_laws.proofs.Adjoint.{adjoint}
-use Rattle.linear_laws.proofs.Bump.{column_entry}
-use Rattle.linear_laws.proofs.Solve.{column_below}
-use Rattle.linear_laws.proofs.Betti.{all_take, all_weaker, dot_unit, length-column}
-use Rattle.linear_laws.proofs.Marks.{mark_vector, combination-mark, dot_mark}
-use Rattle.linear_laws.proofs.Triangles.{dot_of_none}
+use Rattle.linear_laws.proofs.CallerLemmas.{dot_zeros, dot_comm, dot_added, combination-vector, combination-plus, plus_scaled-vector, span_rows, all_at, list_below, entry_combination, zeros_of_dots, combination_twice, adjoint, column_entry, column_below, all_take, all_weaker, dot_unit, length-column, mark_vector, combination-mark, dot_mark, dot_of_none}
+use Rattle.small_field.proofs.CallerLemmas.{neg_unique, neg_mul, neg_neg}
 use Rattle.field_matrix.specs.Solutions.{above, rows_at}
 
 below_is : (p s : ℕ) → p < s → nat_lt p s ≡ true
@@ -168,13 +161,13 @@ module _ (k : Ops) (f : IsField k) where
         let before : AllByRecursion (λ t. dot k t x ≡ 0) ts = perp_all n x after ts h.matrix v.long z (all_weaker (InSpan k n ts) (InSpan k n after) h.span.there ts (span_rows k f n ts at)) in
         zeros_of_dots k f m x rows a
         (λ j lj.
-        dot_comm k f x (column j rows) ∙ (ap (λ (t : List ℕ). dot k t x) (sym (columns j lj)) ∙ all_at k f (λ (t : List ℕ). dot k t x ≡ 0) ts j [] (omega arith) before))
+        dot_comm k f x (column j rows) ∙ (ap (λ (t : List ℕ). dot k t x) (sym (columns j lj)) ∙ all_at (λ (t : List ℕ). dot k t x ≡ 0) ts j [] (omega arith) before))
 
     pivots_within : AllByRecursion (λ p. p < n) h.pivots
     pivots_within = recursion_from_All (λ (p : ℕ). p < n) h.pivots (λ i d li. subst (λ (p : ℕ). p < n) (sym (get_or_default h.pivots i d 0 li)) (h.reduced.within i li))
 
     after_vector : (i : ℕ) → i < length after → IsVector k n (row_at after i)
-    after_vector i li = all_at k f (IsVector k n) after i [] li h.matrix
+    after_vector i li = all_at (IsVector k n) after i [] li h.matrix
 
     -- each row is a combination of those at the pivots
     pub spanned : (j : ℕ) → j < n → InSpan k m (rows_at rows h.pivots) (row_at rows j)

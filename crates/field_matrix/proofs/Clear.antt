@@ -4,8 +4,8 @@ use native.Mathlib.Decide.{dec_lt}
 use Prim.{yes, no}
 use Rattle.small_field.specs.Field.{Ops, IsField}
 use Rattle.linear_laws.specs.Vectors.{IsVector, IsMatrix, plus_scaled, row_at, entry}
-use Rattle.linear_laws.proofs.Dot.{add_zero, mul_zero}
-use Rattle.linear_laws.proofs.Span.{same_span_trans, row_entry_below, addition_keeps_span, plus_scaled-vector, all_at, all_set}
+use Rattle.small_field.proofs.CallerLemmas.{add_zero, mul_zero}
+use Rattle.linear_laws.proofs.CallerLemmas.{same_span_trans, row_entry_below, addition_keeps_span, plus_scaled-vector, all_at, all_set}
 use Rattle.field_matrix.specs.Steps.{IsCleared, IsPivotRow}
 
 module _ (k : Ops) (f : IsField k) where
@@ -43,8 +43,8 @@ module _ (k : Ops) (f : IsField k) where
       let new : List (List ℕ) = set after i w in
       let la : i < length after = let e : length after ≡ length before = h.long in omega arith in
       let lb : rank < length after = let e : length after ≡ length before = h.long in omega arith in
-      let vx : IsVector k cols x = all_at k f (IsVector k cols) after i [] la h.matrix in
-      let vy : IsVector k cols y = all_at k f (IsVector k cols) after rank [] lb h.matrix in
+      let vx : IsVector k cols x = all_at (IsVector k cols) after i [] la h.matrix in
+      let vy : IsVector k cols y = all_at (IsVector k cols) after rank [] lb h.matrix in
       let at_i : row_at new i ≡ w = get_or-set_same after i w [] la in
       let at_other : (a : ℕ) → a ≢ i → row_at new a ≡ row_at after a = λ a d. get_or-set_other after i a w [] d in
       let value : (j : ℕ) → j < cols → entry new i j ≡ k.add (entry after i j) (k.mul s (entry before rank j)) =
@@ -53,7 +53,7 @@ module _ (k : Ops) (f : IsField k) where
       ap (λ (r : List ℕ). get_or r j 0) at_i
       ∙ (get_or-zip2 (λ a b. k.add a (k.mul s b)) x y j 0 0 0 (omega arith) (omega arith) ∙ ap (λ (r : List ℕ). k.add (entry after i j) (k.mul s (get_or r j 0))) h.kept) in
       record {
-        matrix = all_set k f (IsVector k cols) after i w (plus_scaled-vector k f cols s x y vx vy) h.matrix;
+        matrix = all_set (IsVector k cols) after i w (plus_scaled-vector k f cols s x y vx vy) h.matrix;
         long = length-set after i w ∙ h.long;
         span = same_span_trans k cols before after new h.span (addition_keeps_span k f cols s i rank after h.matrix la lb ne);
         kept = at_other rank (λ e. ne (sym e)) ∙ h.kept;

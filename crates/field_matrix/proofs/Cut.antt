@@ -1,14 +1,12 @@
 use Rattle.std.proofs.Common.{◌≡◌, ℕ, zero, suc, ◌+◌, ◌*◌, ◌<◌, ◌≤◌, List, [], ◌∷◌, ◌++◌, length, length-drop, take, drop, set, All, refl, ap, sym, ◌∙◌, arith, subst}
-use Rattle.std.proofs.lemmas.List.{take_at, take-append-le, drop-append-le, take-append-drop, length-take-le}
+use Rattle.std.proofs.lemmas.List.{take_at, take-append-le, drop-append-le, take-append-drop, length-take-le, drop_at}
 use Rattle.std.proofs.lemmas.List.Elements.{All-from_recursion}
 use Rattle.std.proofs.Math.Seq.{drop-append_seam}
 use Rattle.small_field.specs.Field.{Ops}
-use Rattle.linear_laws.specs.Vectors.{AreElements, IsMatrix, row_at}
-use Rattle.linear_laws.proofs.Betti.{all_append, all_take, all_drop}
+use Rattle.linear_laws.specs.Vectors.{IsMatrix, row_at}
+use Rattle.small_field.specs.Values.{AreElements}
+use Rattle.linear_laws.proofs.CallerLemmas.{all_append, all_take, all_drop}
 use Rattle.field_matrix.specs.Rows.{cut}
-
-drop_at : (xs ys : List ℕ) (c : ℕ) → length xs ≡ c → drop c (xs ++ ys) ≡ ys
-drop_at xs ys c long = subst (λ (n : ℕ). drop n (xs ++ ys) ≡ ys) long (drop-append_seam xs ys)
 
 pub length-cut : (n c : ℕ) (xs : List ℕ) → length (cut n c xs) ≡ n
 length-cut zero c xs = refl

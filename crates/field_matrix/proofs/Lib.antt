@@ -1,9 +1,10 @@
+pub mod CallerLemmas
 mod Cut
 mod Splits
 mod Clear
 mod BringUp
 mod Reduced
-pub mod Ranks
+mod Ranks
 mod Views
 mod Built
 mod Sweep

@@ -6,15 +6,11 @@ use Rattle.std.proofs.lemmas.Bool.Decides.{nat_tests}
 use native.Mathlib.Decide.{dec_lt}
 use Prim.{yes, no}
 use Rattle.lane_rows.specs.Lanes.{first_place}
-use Rattle.lane_rows.proofs.Loops.{place_found, place_missing}
+use Rattle.lane_rows.proofs.CallerLemmas.{place_found, place_missing}
 use Rattle.small_field.specs.Field.{Ops, IsField}
 use Rattle.linear_laws.specs.Vectors.{IsVector, IsMatrix, IsBasis, InSpan, row_at}
 use Rattle.linear_laws.specs.Echelon.{IsReducedBelow, IsReducedTo, IsReduced, is_nonzero, rank_of}
-use Rattle.linear_laws.proofs.Span.{all_at, span_rows}
-use Rattle.linear_laws.proofs.Scaled.{one_is_not_zero}
-use Rattle.linear_laws.proofs.Laws.{rank_of_basis}
-use Rattle.linear_laws.proofs.Betti.{all_take, all_weaker, in_span_trans, pivots_span, pivots_independent, long_pivots}
-use Rattle.linear_laws.proofs.Betti.{rank_is_dimension as same_rank}
+use Rattle.linear_laws.proofs.CallerLemmas.{all_at, span_rows, one_is_not_zero, rank_of_basis, all_take, all_weaker, in_span_trans, pivots_span, pivots_independent, long_pivots, rank_is_dimension as same_rank}
 
 pub nonzero_at : (row : List ℕ) (j : ℕ) → get_or row j 0 ≢ 0 → is_nonzero row ≡ true
 nonzero_at [] j ne = absurd (ne refl)
@@ -66,14 +62,6 @@ told_by_first row =
       | inr p ↦ ap is_some (first_is row p.0 p.1) ∙ sym (nonzero_at row p.0 p.1.here)
     ]
 
-pub of_not_true : (b : Bool) → not b ≡ true → b ≡ false
-of_not_true true h = cc
-of_not_true false h = refl
-
-pub of_not_false : (b : Bool) → not b ≡ false → b ≡ true
-of_not_false true h = refl
-of_not_false false h = cc
-
 rank_cons : (row : List ℕ) (rows : List (List ℕ)) → rank_of (row ∷ rows) ≡ cond (is_nonzero row) 1 0 + rank_of rows
 rank_cons row rows = sum_by-cons (λ r. cond (is_nonzero r) 1 0) row rows
 
@@ -97,7 +85,7 @@ module _ (k : Ops) (f : IsField k) where
       count_front rows (length pivots) h.few
       (λ i lt. nonzero_at (row_at rows i) (get_or pivots i 0) (λ z. one_is_not_zero (sym (h.one i lt) ∙ z)))
       (λ i le lt.
-      let v : IsVector k n (row_at rows i) = all_at k f (IsVector k n) rows i [] lt a in
+      let v : IsVector k n (row_at rows i) = all_at (IsVector k n) rows i [] lt a in
       let long : length (row_at rows i) ≡ n = v.long in
       zero_row (row_at rows i) (λ j lj. h.zero i j le lt (omega arith)))
 
@@ -105,7 +93,7 @@ module _ (k : Ops) (f : IsField k) where
   pub pivot_first_in : (cols width : ℕ) (rows : List (List ℕ)) (pivots : List ℕ) (i : ℕ) → width ≤ cols → IsMatrix k cols rows → IsReducedBelow width rows pivots → i < length pivots → First (take width (row_at rows i)) (get_or pivots i 0)
   pivot_first_in cols width rows pivots i le a h lt =
       let few : length pivots ≤ length rows = h.few in
-      let v : IsVector k cols (row_at rows i) = all_at k f (IsVector k cols) rows i [] (omega arith) a in
+      let v : IsVector k cols (row_at rows i) = all_at (IsVector k cols) rows i [] (omega arith) a in
       let long : length (row_at rows i) ≡ cols = v.long in
       let lw : length (take width (row_at rows i)) ≡ width = length-take-le width (row_at rows i) (omega arith) in
       let p : get_or pivots i 0 < width = h.within i lt in
@@ -119,7 +107,7 @@ module _ (k : Ops) (f : IsField k) where
   pub pivot_first : (n : ℕ) (rows : List (List ℕ)) (pivots : List ℕ) (i : ℕ) → IsMatrix k n rows → IsReducedBelow n rows pivots → i < length pivots → First (row_at rows i) (get_or pivots i 0)
   pivot_first n rows pivots i a h lt =
       let few : length pivots ≤ length rows = h.few in
-      let v : IsVector k n (row_at rows i) = all_at k f (IsVector k n) rows i [] (omega arith) a in
+      let v : IsVector k n (row_at rows i) = all_at (IsVector k n) rows i [] (omega arith) a in
       let long : length (row_at rows i) ≡ n = v.long in
       subst (λ (w : List ℕ). First w (get_or pivots i 0)) (take_all n (row_at rows i) (omega arith)) (pivot_first_in n n rows pivots i (omega arith) a h lt)
 

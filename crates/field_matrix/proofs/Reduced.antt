@@ -6,7 +6,7 @@ use Prim.{yes, no}
 use Rattle.small_field.specs.Field.{Ops, IsField}
 use Rattle.linear_laws.specs.Vectors.{IsMatrix, entry}
 use Rattle.linear_laws.specs.Echelon.{IsReducedTo, IsReducedBelow}
-use Rattle.linear_laws.proofs.Span.{same_span_trans}
+use Rattle.linear_laws.proofs.CallerLemmas.{same_span_trans}
 use Rattle.field_matrix.specs.Steps.{IsBroughtUp, IsCleared, IsPivotRow}
 
 module _ (k : Ops) (f : IsField k) where

@@ -1,18 +1,14 @@
 use Rattle.std.proofs.Common.{◌≡◌, ℕ, zero, suc, ◌+◌, ◌<◌, List, [], ◌∷◌, ◌++◌, length, length-append, map, take, drop, replicate, get_or, true, false, refl, ap, sym, ◌∙◌, arith, subst}
 use Rattle.std.proofs.lemmas.Simd.{length-replicate}
-use Rattle.std.proofs.lemmas.List.{length-map, take_at, get_or-take}
+use Rattle.std.proofs.lemmas.List.{length-map, take_at, get_or-take, drop_at}
 use Rattle.std.proofs.lemmas.Bool.Decides.{nat_tests}
 use Rattle.small_field.specs.Field.{Ops, IsField}
 use Rattle.linear_laws.specs.Marks.{identity, beside, lefts}
-use Rattle.linear_laws.specs.Vectors.{AreElements, IsVector, IsMatrix, InSpan, plus_scaled, combination}
+use Rattle.linear_laws.specs.Vectors.{IsVector, IsMatrix, InSpan, plus_scaled, combination}
+use Rattle.small_field.specs.Values.{AreElements}
 use Rattle.linear_laws.specs.Echelon.{IsReducedTo, is_nonzero}
-use Rattle.linear_laws.proofs.Dot.{neg_mul, neg_unique}
-use Rattle.linear_laws.proofs.Decide.{neg_neg}
-use Rattle.linear_laws.proofs.Span.{combination-vector, one_times, span_plus, zeros-elements, plus_scaled-long}
-use Rattle.linear_laws.proofs.Scaled.{span_scaled}
-use Rattle.linear_laws.proofs.Betti.{zero_at_pivots, all_append}
-use Rattle.linear_laws.proofs.Halves.{drop_at, take-plus_scaled, drop-plus_scaled, left_vector}
-use Rattle.linear_laws.proofs.History.{told_by_right, left_reduced, left_pivots}
+use Rattle.small_field.proofs.CallerLemmas.{neg_mul, neg_unique, neg_neg}
+use Rattle.linear_laws.proofs.CallerLemmas.{combination-vector, one_times, span_plus, zeros-elements, plus_scaled-long, span_scaled, zero_at_pivots, all_append, take-plus_scaled, drop-plus_scaled, left_vector, told_by_right, left_reduced, left_pivots}
 use Rattle.field_matrix.specs.Steps.{IsReducedBy, IsSwept, IsClearAt}
 use Rattle.field_matrix.proofs.Sweep.{place_is}
 

@@ -2,8 +2,9 @@ use Rattle.std.proofs.Common.{◌≡◌, ℕ, ◌+◌, ◌*◌, ◌<◌, ◌≤�
 use Rattle.std.proofs.lemmas.List.{set-append_left, set-append_right, get_or_append_left, get_or-append_right, take-append-drop, length-take-le}
 use Rattle.std.proofs.Math.Nat.{mul-le-mul_right}
 use Rattle.small_field.specs.Field.{Ops, IsField}
-use Rattle.linear_laws.specs.Vectors.{AreElements, IsVector, IsMatrix, plus_scaled, row_at, entry}
-use Rattle.linear_laws.proofs.Span.{all_at, plus_scaled-vector}
+use Rattle.linear_laws.specs.Vectors.{IsVector, IsMatrix, plus_scaled, row_at, entry}
+use Rattle.small_field.specs.Values.{AreElements}
+use Rattle.linear_laws.proofs.CallerLemmas.{all_at, plus_scaled-vector}
 use Rattle.field_matrix.specs.Rows.{cut}
 use Rattle.field_matrix.proofs.Cut.{length-cut, cut-middle, cut-replaced, cut-front, cut-back, elements_below}
 
@@ -91,7 +92,7 @@ module _ (n c i : ℕ) (xs front mid back : List ℕ) (s : IsSplit n c i xs fron
 
 module _ (k : Ops) (f : IsField k) where
   pub row_vector : (n c i : ℕ) (xs : List ℕ) → IsMatrix k c (cut n c xs) → i < n → IsVector k c (row_at (cut n c xs) i)
-  row_vector n c i xs a lt = all_at k f (IsVector k c) (cut n c xs) i [] (omega (arith, length-cut n c xs)) a
+  row_vector n c i xs a lt = all_at (IsVector k c) (cut n c xs) i [] (omega (arith, length-cut n c xs)) a
 
   pub mid_vector : (n c i : ℕ) (xs front mid back : List ℕ) → IsSplit n c i xs front mid back → IsMatrix k c (cut n c xs) → IsVector k c mid
   mid_vector n c i xs front mid back s a = subst (IsVector k c) (row_is n c i xs front mid back s) (row_vector n c i xs a s.place)

@@ -4,10 +4,8 @@ use Rattle.lane_rows.specs.Lanes.{first_place}
 use Rattle.small_field.specs.Field.{Ops, IsField}
 use Rattle.linear_laws.specs.Vectors.{IsVector, IsMatrix, InSpan, plus_scaled, row_at}
 use Rattle.linear_laws.specs.Echelon.{IsReducedBelow}
-use Rattle.linear_laws.proofs.Dot.{zero_below, mul_zero}
-use Rattle.linear_laws.proofs.Span.{all_at, plus_scaled-vector, span_zero, span_plus, span_rows, combination-vector}
-use Rattle.linear_laws.proofs.Scaled.{same_or_not}
-use Rattle.linear_laws.proofs.Betti.{regroup, plus_zeros}
+use Rattle.small_field.proofs.CallerLemmas.{zero_below, mul_zero}
+use Rattle.linear_laws.proofs.CallerLemmas.{all_at, plus_scaled-vector, span_zero, span_plus, span_rows, combination-vector, same_or_not, regroup, plus_zeros}
 use Rattle.field_matrix.specs.Steps.{IsReducedBy, IsSwept, IsClearAt}
 use Rattle.field_matrix.proofs.Ranks.{first_is, pivot_first_in}
 
@@ -43,7 +41,7 @@ module _ (k : Ops) (f : IsField k) (cols width rank : ℕ) (rows : List (List �
       let e : length h.pivots ≡ rank = h.rank_is in
       let source : List ℕ = row_at rows i in
       let li : i < length rows = within i lt in
-      let vs : IsVector k cols source = all_at k f (IsVector k cols) rows i [] li a in
+      let vs : IsVector k cols source = all_at (IsVector k cols) rows i [] li a in
       let ls : length source ≡ cols = vs.long in
       let ln : length now ≡ cols = w.vector.long in
       let d : List ℕ = w.swept.difference in
@@ -54,7 +52,7 @@ module _ (k : Ops) (f : IsField k) (cols width rank : ℕ) (rows : List (List �
         vector = plus_scaled-vector k f cols s now source w.vector vs;
         swept = record {
           difference = plus_scaled k s d source;
-          inside = span_plus k f cols s rows d source a w.swept.inside (all_at k f (InSpan k cols rows) rows i [] li (span_rows k f cols rows a));
+          inside = span_plus k f cols s rows d source a w.swept.inside (all_at (InSpan k cols rows) rows i [] li (span_rows k f cols rows a));
           is = ap (λ (v : List ℕ). plus_scaled k s v source) w.swept.is ∙ regroup k f s before d source (vb.long ∙ sym ls) (ld ∙ sym ls);
         };
         clear = λ b p lb found.

@@ -7,10 +7,8 @@ use Rattle.lane_rows.specs.Lanes.{first_place}
 use Rattle.small_field.specs.Field.{Ops, IsField}
 use Rattle.std.proofs.lemmas.List.Elements.{recursion_from_All}
 use Rattle.linear_laws.specs.Vectors.{IsVector, IsMatrix, column, row_at}
-use Rattle.linear_laws.proofs.Betti.{all_append, length-column}
-use Rattle.linear_laws.proofs.Solve.{column_below}
+use Rattle.linear_laws.proofs.CallerLemmas.{all_append, length-column, column_below, one_is_not_zero}
 use Rattle.linear_laws.specs.Echelon.{IsReducedBelow, is_nonzero}
-use Rattle.linear_laws.proofs.Scaled.{one_is_not_zero}
 use Rattle.field_matrix.specs.Rows.{cut}
 use Rattle.field_matrix.specs.Solutions.{above}
 use Rattle.field_matrix.proofs.Cut.{length-cut}

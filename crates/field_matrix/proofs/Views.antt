@@ -1,10 +1,10 @@
 use Rattle.std.proofs.Common.{◌≡◌, ℕ, zero, suc, ◌+◌, ◌*◌, ◌<◌, List, ◌∷◌, ◌++◌, length, replicate, take, drop, refl, ap, sym, ◌∙◌, arith, subst}
-use Rattle.std.proofs.lemmas.List.{take_at}
+use Rattle.std.proofs.lemmas.List.{take_at, replicate-append-replicate}
 use Rattle.std.proofs.Math.Seq.{drop-append_seam}
 use Rattle.std.proofs.lemmas.Simd.{length-replicate}
 use Rattle.small_field.specs.Field.{Ops, IsField}
 use Rattle.linear_laws.specs.Vectors.{IsMatrix, entry}
-use Rattle.linear_laws.proofs.Span.{row_entry_below}
+use Rattle.linear_laws.proofs.CallerLemmas.{row_entry_below}
 use Rattle.field_matrix.specs.Rows.{cut, Rows, IsFilled}
 use Rattle.field_matrix.proofs.Cut.{length-cut, cut-matrix}
 
@@ -21,14 +21,10 @@ module _ (n c : ℕ) (xs : List ℕ) (v : Rows) (is : record { cols = c; rows = 
   pub seen_matrix : (k : Ops) → IsFilled k n c xs → IsMatrix k v.cols v.rows
   seen_matrix k h = subst (λ (w : Rows). IsMatrix k w.cols w.rows) is (cut-matrix k n c xs h.long h.elements)
 
-zeros_split : (a b : ℕ) → replicate {A = ℕ} (a + b) 0 ≡ replicate a 0 ++ replicate b 0
-zeros_split zero b = ap (λ (n : ℕ). replicate {A = ℕ} n 0) (let e : 0 + b ≡ b = omega arith in e)
-zeros_split (suc a) b = ap (λ (n : ℕ). replicate {A = ℕ} n 0) (let e : suc a + b ≡ suc (a + b) = omega arith in e) ∙ ap (λ (r : List ℕ). 0 ∷ r) (zeros_split a b)
-
 pub cut-zeros : (n c m : ℕ) → m ≡ n * c → cut n c (replicate m 0) ≡ replicate n (replicate c 0)
 cut-zeros zero c m e = refl
 cut-zeros (suc n) c m e =
-    let parts : replicate {A = ℕ} m 0 ≡ replicate c 0 ++ replicate (n * c) 0 = ap (λ (j : ℕ). replicate {A = ℕ} j 0) (let s : m ≡ c + n * c = omega arith in s) ∙ zeros_split c (n * c) in
+    let parts : replicate {A = ℕ} m 0 ≡ replicate c 0 ++ replicate (n * c) 0 = ap (λ (j : ℕ). replicate {A = ℕ} j 0) (let s : m ≡ c + n * c = omega arith in s) ∙ sym (replicate-append-replicate {A = ℕ} c (n * c) 0) in
     let long : length (replicate {A = ℕ} c 0) ≡ c = length-replicate c 0 in
     let front : take {A = ℕ} c (replicate m 0) ≡ replicate c 0 = ap (take c) parts ∙ take_at (replicate c 0) (replicate (n * c) 0) c long in
     let back : drop {A = ℕ} c (replicate m 0) ≡ replicate (n * c) 0 =

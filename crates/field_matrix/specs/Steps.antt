@@ -1,10 +1,17 @@
+-- The steps of an elimination. k is the arithmetic of a field; rows and columns count from 0, and `rank` is the number of pivots so far.
+--   IsPivotRow rows rank col                      row `rank` begins with a 1 at the column
+--   IsBroughtUp k cols rank col before after      the rows before `rank` stay, the others are zero before the column, row `rank` has a 1 there
+--   IsCleared k cols rank col upto before after   what clearing a column leaves in the rows before `upto`, where row `rank` is the pivot row
+--   ZeroBelow rank col rows                       the rows from `rank` on are zero before the column
+--   IsReducedBy width rank rows                   the first `rank` rows have pivots in the first `width` columns, in reduced row echelon form
+--   IsSwept k cols rows before after              a row to which a combination of the rows was added
+--   IsClearAt width upto rows row                 zero in the first column that is not zero, among the first `width`, of each of the first `upto` rows
 use Rattle.std.specs.Prelude.{◌≡◌, ◌≢◌, ℕ, ◌<◌, ◌≤◌, List, Some, length, take, slice_index}
 use Rattle.lane_rows.specs.Lanes.{first_place}
 use Rattle.small_field.specs.Field.{Ops}
 use Rattle.linear_laws.specs.Vectors.{IsMatrix, InSpan, SameSpan, plus_scaled, row_at, entry}
 use Rattle.linear_laws.specs.Echelon.{IsReducedBelow}
 
--- what clearing a column leaves in the rows before `upto`, where row `rank` has a 1 there and nothing before it
 pub record IsCleared (k : Ops) (cols rank col upto : ℕ) (before after : List (List ℕ)) : Type 0 where
   pub matrix : IsMatrix k cols after
   pub long : length after ≡ length before
@@ -13,12 +20,10 @@ pub record IsCleared (k : Ops) (cols rank col upto : ℕ) (before after : List (
   pub earlier : (i j : ℕ) → j < col → entry after i j ≡ entry before i j
   pub clear : (i : ℕ) → i < upto → i < length before → i ≢ rank → entry after i col ≡ 0
 
--- row `rank` begins with a 1 at the column
 pub record IsPivotRow (rows : List (List ℕ)) (rank col : ℕ) : Type 0 where
   pub one : entry rows rank col ≡ 1
   pub first : (j : ℕ) → j < col → entry rows rank j ≡ 0
 
--- the rows before `rank` stay, the others are zero before the column, and row `rank` has a 1 there
 pub record IsBroughtUp (k : Ops) (cols rank col : ℕ) (before after : List (List ℕ)) : Type 0 where
   pub matrix : IsMatrix k cols after
   pub long : length after ≡ length before
@@ -27,22 +32,18 @@ pub record IsBroughtUp (k : Ops) (cols rank col : ℕ) (before after : List (Lis
   pub below : (i j : ℕ) → rank ≤ i → i < length before → j < col → entry after i j ≡ 0
   pub one : entry after rank col ≡ 1
 
--- the rows from `rank` on are zero before the column
 abbrev pub ZeroBelow : ℕ → ℕ → List (List ℕ) → Type 0
 ZeroBelow rank col rows = (i j : ℕ) → rank ≤ i → i < length rows → j < col → entry rows i j ≡ 0
 
--- the first `rank` rows have pivots in the first `width` columns, in reduced row echelon form
 pub record IsReducedBy (width rank : ℕ) (rows : List (List ℕ)) : Type 0 where
   pub pivots : List ℕ
   pub rank_is : length pivots ≡ rank
   pub reduced : IsReducedBelow width rows pivots
 
--- a row to which a combination of the rows was added
 pub record IsSwept (k : Ops) (cols : ℕ) (rows : List (List ℕ)) (before after : List ℕ) : Type 0 where
   pub difference : List ℕ
   pub inside : InSpan k cols rows difference
   pub is : after ≡ plus_scaled k 1 before difference
 
--- zero in the first column that is not zero, among the first `width`, of each of the first `upto` rows
 abbrev pub IsClearAt : ℕ → ℕ → List (List ℕ) → List ℕ → Type 0
 IsClearAt width upto rows row = (a p : ℕ) → a < upto → first_place (take width (row_at rows a)) ≡ Some p → slice_index row p ≡ 0

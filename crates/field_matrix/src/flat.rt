@@ -1,7 +1,8 @@
 //! Rows of one length, one after the other in one slice.
 
 ghost use Rattle.std.specs.Prelude.{◌≡◌, ◌≢◌, ℕ, ◌+◌, ◌*◌, ◌<◌, ◌≤◌, ◌^◌, not, length, map, slice_set, slice_range, All};
-ghost use Rattle.linear_laws.specs.Vectors.{IsMatrix, AreElements, plus_scaled, row_at, entry};
+ghost use Rattle.linear_laws.specs.Vectors.{IsMatrix, plus_scaled, row_at, entry};
+ghost use Rattle.small_field.specs.Values.{AreElements};
 ghost use Rattle.linear_laws.specs.Echelon.{is_nonzero};
 ghost use Rattle.field_matrix.specs.Rows.{cut};
 

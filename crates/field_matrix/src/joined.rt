@@ -1,7 +1,8 @@
 //! Rows with the rows of the identity beside them, so that elimination keeps its history.
 
 ghost use Rattle.std.specs.Prelude.{◌≡◌, ◌≢◌, ℕ, ◌+◌, ◌-◌, ◌*◌, ◌<◌, ◌≤◌, ◌^◌, ◌++◌, ◌==◌, if◌then◌else◌, length, map, take, drop, replicate, IfOk, All};
-ghost use Rattle.linear_laws.specs.Vectors.{AreElements, IsVector, IsMatrix, row_at};
+ghost use Rattle.linear_laws.specs.Vectors.{IsVector, IsMatrix, row_at};
+ghost use Rattle.small_field.specs.Values.{AreElements};
 ghost use Rattle.linear_laws.specs.Echelon.{IsReducedTo};
 ghost use Rattle.linear_laws.specs.Marks.{mark, identity, beside, lefts, rights};
 ghost use Rattle.field_matrix.specs.Rows.{cut};

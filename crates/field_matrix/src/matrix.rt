@@ -2,7 +2,8 @@
 
 ghost use Rattle.std.specs.Prelude.{◌≡◌, ℕ, ◌+◌, ◌*◌, ◌<◌, ◌≤◌, ◌^◌, List, length, replicate, slice_index, slice_set, Some, IfOk};
 ghost use Rattle.lane_rows.specs.Lanes.{first_place};
-ghost use Rattle.linear_laws.specs.Vectors.{AreElements, IsMatrix, IsBasis, row_at, entry};
+ghost use Rattle.linear_laws.specs.Vectors.{IsMatrix, IsBasis, row_at, entry};
+ghost use Rattle.small_field.specs.Values.{AreElements};
 ghost use Rattle.linear_laws.specs.Echelon.{IsReducedBelow, IsReducedTo, IsReduced, rank_of};
 ghost use Rattle.field_matrix.specs.Rows.{cut, IsFilled};
 
@@ -91,6 +92,18 @@ impl<F: Field> Matrix<F> {
         };
         let number = value.to_number() as u8;
         set_entry(&mut self.entries, shape, row as usize, col as usize, number);
+    }
+
+    /// The same matrix once more.
+    pub fn copy(&self, alloc: Global) -> Result<Matrix<F>, AllocError>
+        ensures { IfOk result (λ m. m ≡ self.now) }
+    {
+        Ok(Matrix {
+            rows: self.rows,
+            cols: self.cols,
+            entries: Vec::from_slice(alloc, &self.entries)?,
+            of: PhantomData,
+        })
     }
 
     /// Puts the matrix into reduced row echelon form, in place. The rows span what they spanned.

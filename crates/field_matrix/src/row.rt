@@ -1,7 +1,7 @@
 //! A list of elements.
 
 ghost use Rattle.std.specs.Prelude.{◌≡◌, ℕ, ◌<◌, ◌^◌, length, replicate, slice_index, slice_set, IfOk};
-ghost use Rattle.linear_laws.specs.Vectors.{AreElements};
+ghost use Rattle.small_field.specs.Values.{AreElements};
 
 use small_field::Field;
 use std::alloc::{AllocError, Global};
@@ -17,13 +17,13 @@ pub struct Row<F: Field> {
 
 impl<F: Field> Model for Row<F> {
     ghost use Rattle.std.specs.Prelude.{ℕ, List};
-    ghost use Rattle.field_matrix.specs.Rows.{IsRow};
+    ghost use Rattle.small_field.specs.Values.{AreValues};
 
     ghost Value = { List ℕ };
 
     ghost view = { λ r. r.numbers.items };
 
-    ghost invariant = { λ r. IsRow F.ops r.numbers.items };
+    ghost invariant = { λ r. AreValues F.ops r.numbers.items };
 }
 
 impl<F: Field> Row<F> {

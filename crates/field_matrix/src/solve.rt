@@ -1,7 +1,8 @@
 //! Solutions of linear equations, and kernels.
 
 ghost use Rattle.std.specs.Prelude.{◌≡◌, ℕ, ◌+◌, ◌-◌, ◌*◌, ◌<◌, ◌≤◌, ◌^◌, ◌++◌, List, length, map, replicate, IfOk};
-ghost use Rattle.linear_laws.specs.Vectors.{AreElements, IsVector, IsMatrix, IsKernelBasis};
+ghost use Rattle.linear_laws.specs.Vectors.{IsVector, IsMatrix, IsKernelBasis};
+ghost use Rattle.small_field.specs.Values.{AreElements};
 ghost use Rattle.linear_laws.specs.Echelon.{IsReducedTo};
 ghost use Rattle.linear_laws.specs.Marks.{identity, beside};
 ghost use Rattle.field_matrix.specs.Rows.{cut, IsFilled};

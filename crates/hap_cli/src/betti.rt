@@ -4,7 +4,7 @@ ghost use Rattle.small_field.specs.Prime.{mod_ops};
 ghost use Rattle.plain_betti.specs.Numbers.{AreBetti};
 ghost use Rattle.hap_outside.specs.Causes.{HasCause};
 ghost use Rattle.hap_outside.specs.Writes.{Writes};
-ghost use Rattle.hap_words.specs.Ranges.{is_modulus};
+ghost use Rattle.small_field.specs.Modulus.{is_modulus};
 ghost use Rattle.hap_cli.specs.Spaces.{only_few};
 ghost use Rattle.hap_cli.specs.Answers.{betti_text};
 ghost use Rattle.hap_cli.specs.Counting.{most_steps};

@@ -10,8 +10,7 @@ use std::io::{Read, Write};
 use std::marker::Model;
 use std::rt::Files;
 
-/// Standard input, or the file that `begin` names, whose path may be relative to the folder that the
-/// program runs in.
+/// Standard input, or the file that `begin` names.
 #[derive(Drop)]
 pub struct HostSource<R: Files + Input + Drop> {
     runtime: R,
@@ -101,7 +100,7 @@ impl<R: Files + Input + Drop> Source for HostSource<R> {
     }
 }
 
-/// A writer of the standard library, which is handed each piece at once.
+/// A writer of the standard library.
 #[derive(Drop)]
 pub struct HostSink<W: Write + Drop> {
     writer: W,

@@ -19,6 +19,20 @@ pub enum Piece<'a> {
     Number(i128),
 }
 
+/// Appends the texts of the pieces one after another, or a prefix of all that and fails.
+pub fn write_pieces<K: Sink>(sink: &mut K, pieces: &[Piece<'_>]) -> Result<(), Failed>
+    ensures bytes { Writes (K.written sink.old) (K.written sink.new) (texts_of pieces.now) result }
+    ensures cause { HasCause (K.faults sink.old) (K.faults sink.new) result }
+{
+    match pieces {
+        [] => Ok(()),
+        [first, rest @ ..] => match write_piece(sink, *first) {
+            Ok(()) => write_pieces(sink, rest),
+            Err(Failed) => Err(Failed),
+        },
+    }
+}
+
 fn write_count<K: Sink>(sink: &mut K, value: u64) -> Result<(), Failed>
     ensures bytes { Writes (K.written sink.old) (K.written sink.new) (decimal value) result }
     ensures cause { HasCause (K.faults sink.old) (K.faults sink.new) result }
@@ -36,19 +50,5 @@ fn write_piece<K: Sink>(sink: &mut K, piece: Piece<'_>) -> Result<(), Failed>
         Piece::Text(text) => write_all(sink, text),
         Piece::Count(value) => write_count(sink, value),
         Piece::Number(value) => write_number(sink, value),
-    }
-}
-
-/// Appends the texts of the pieces one after another, or a prefix of all that and fails.
-pub fn write_pieces<K: Sink>(sink: &mut K, pieces: &[Piece<'_>]) -> Result<(), Failed>
-    ensures bytes { Writes (K.written sink.old) (K.written sink.new) (texts_of pieces.now) result }
-    ensures cause { HasCause (K.faults sink.old) (K.faults sink.new) result }
-{
-    match pieces {
-        [] => Ok(()),
-        [first, rest @ ..] => match write_piece(sink, *first) {
-            Ok(()) => write_pieces(sink, rest),
-            Err(Failed) => Err(Failed),
-        },
     }
 }

@@ -62,8 +62,8 @@ pub trait Source {
     ghost none_before: { (s : Self) → begun s ≡ false → IsAtEnd (left s) };
 }
 
-/// Reads all bytes that are left, where these are no more than the limit. It makes at most `limit + 2`
-/// reads. After an error the bytes read so far stay taken.
+/// Reads all bytes that are left, where these are no more than the limit. After an error the bytes read
+/// so far stay taken.
 pub fn read_all<S: Source>(alloc: Global, source: &mut S, limit: usize) -> Result<Vec<u8>, ReadAll>
     requires begun { S.begun source.old ≡ true }
     requires limit { limit ≤ 67108864 }

@@ -9,7 +9,8 @@ use Rattle.hap_words.specs.declared.table.Verb.TheVariants as verb
 use Rattle.hap_words.specs.declared.table.Name.TheVariants as name
 use Rattle.hap_words.specs.Asked.{Asked}
 use Rattle.hap_words.specs.Line.{hap_app}
-use Rattle.hap_words.specs.Ranges.{is_modulus, is_modulus_if, is_size, is_in_range}
+use Rattle.hap_words.specs.Ranges.{is_modulus_if, is_size, is_in_range}
+use Rattle.small_field.specs.Modulus.{is_modulus}
 use Rattle.hap_words.specs.Texts.{number_between, if_between, number_of}
 use Rattle.hap_words.specs.Table as table
 

@@ -7,3 +7,4 @@ pub mod Table
 pub mod Reads
 pub mod Ranges
 pub use Rattle.face_poset.specs.Positions
+pub use Rattle.small_field.specs.Modulus

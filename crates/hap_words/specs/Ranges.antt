@@ -1,15 +1,12 @@
 -- The values that the options of a command may have.
---   is_modulus n         there is a field of n elements: n is 2, 3, 5 or 7
---   is_modulus_if o      the same where a number is given
+--   is_modulus_if o      there is a field of so many elements (is_modulus), where a number is given
 --   is_size n            there is a 3-torus of the size n: 2 to 19
 --   is_in_range asked    the modulus and the size of the command are such numbers, where it has them
-use Rattle.std.specs.Prelude.{ℕ, Bool, true, ◌==◌, ◌||◌, ◌&&◌, nat_le}
+use Rattle.std.specs.Prelude.{ℕ, Bool, true, ◌&&◌, nat_le}
 use Rattle.std.specs.declared.option.Option.{Option}
 use Rattle.std.specs.declared.option.Option.TheVariants.{Some, None}
+use Rattle.small_field.specs.Modulus.{is_modulus}
 use Rattle.hap_words.specs.Asked.{Asked, betti, cup, cover, report, make}
-
-abbrev pub is_modulus : ℕ → Bool
-is_modulus n = (n == 2) || ((n == 3) || ((n == 5) || (n == 7)))
 
 abbrev pub is_modulus_if : Option ℕ → Bool
 is_modulus_if None = true

@@ -29,7 +29,7 @@ use Rattle.hap_words.specs.declared.table.Name.{Name}
 use Rattle.hap_words.specs.declared.table.Name.TheVariants as name
 use Rattle.hap_words.specs.Line.{hap_app}
 use Rattle.hap_words.specs.Texts.{named, number_between}
-use Rattle.hap_words.specs.Ranges.{is_modulus}
+use Rattle.small_field.specs.Modulus.{is_modulus}
 use Rattle.hap_words.specs.Asked.{Asked, Source, SearchPlace, cells, check, betti, cup, verify, group, covers, cover, report, make}
 
 -- ---- the words

@@ -2,7 +2,8 @@ use Rattle.std.proofs.Common.{◌≡◌, ℕ, zero, suc, ◌<◌, List, [], ◌�
 use Rattle.std.proofs.lemmas.Simd.{length-replicate}
 use Rattle.small_field.specs.Field.{Ops, IsField}
 use Rattle.linear_laws.specs.Vectors.{dot, boundary, IsVector, IsMatrix, combination}
-use Rattle.linear_laws.proofs.Dot.{zero_below, add_zero, mul_zero, zero_mul, dot_below, dot_zeros, dot_added}
+use Rattle.linear_laws.proofs.Dot.{dot_below, dot_zeros, dot_added}
+use Rattle.small_field.proofs.CallerLemmas.{zero_below, add_zero, mul_zero, zero_mul}
 use Rattle.linear_laws.proofs.Span.{combination-vector, zeros-elements}
 
 module _ (k : Ops) (f : IsField k) where

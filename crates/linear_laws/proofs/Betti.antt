@@ -1,47 +1,24 @@
 use Rattle.std.proofs.Common.{◌≡◌, ◌≢◌, ℕ, zero, suc, ◌+◌, ◌<◌, ◌≤◌, inl, inr, List, [], ◌∷◌, ◌++◌, length, length-append, replicate, take, drop, get_or, refl, ap, sym, ◌∙◌, arith, subst}
 use Rattle.std.specs.List.{AllByRecursion}
-use Rattle.std.proofs.lemmas.List.{ext_get_or, get_or_default, get_or-take, length-take-le, take-append-drop, length-drop}
+use Rattle.std.proofs.lemmas.List.{ext_get_or, get_or_default, get_or-take, length-take-le, take-append-drop, length-drop, take-replicate}
 use Rattle.std.proofs.lemmas.List.Elements.{recursion_from_All}
 use Rattle.std.proofs.lemmas.Simd.{length-replicate, get_or-replicate}
 use native.Mathlib.Decide.{dec_lt}
 use Prim.{yes, no}
 use Rattle.small_field.specs.Field.{Ops, IsField}
-use Rattle.linear_laws.specs.Vectors.{dot, column, AreElements, IsVector, IsMatrix, plus_scaled, combination, InSpan, IsIndependent, IsInKernel, row_at, entry}
+use Rattle.linear_laws.specs.Vectors.{dot, column, IsVector, IsMatrix, plus_scaled, combination, InSpan, IsIndependent, IsInKernel, row_at, entry}
+use Rattle.small_field.specs.Values.{AreElements}
 use Rattle.linear_laws.specs.Echelon.{IsReducedTo, IsReducedBelow}
 use Rattle.linear_laws.specs.Betti.{HasBasis}
-use Rattle.linear_laws.proofs.Dot.{zero_below, add_zero, mul_zero}
-use Rattle.linear_laws.proofs.Span.{combination-vector, combination-zeros, combination-plus, plus_scaled-vector, zeros-elements, taken_back, span_rows, span_within, span_zero, span_all_more, all_at}
-use Rattle.linear_laws.proofs.Decide.{neg_neg, entry_combination}
+use Rattle.small_field.proofs.CallerLemmas.{zero_below, add_zero, mul_zero, neg_neg}
+use Rattle.linear_laws.proofs.Span.{combination-vector, combination-zeros, combination-plus, plus_scaled-vector, zeros-elements, taken_back, span_rows, span_within, span_zero, span_all_more}
+use Rattle.linear_laws.proofs.Decide.{entry_combination}
 use Rattle.linear_laws.proofs.Dimension.{in_span_or_not, no_more}
 use Rattle.linear_laws.proofs.Dot.{dot_below}
 use Rattle.linear_laws.proofs.Bump.{column_entry}
 use Rattle.linear_laws.proofs.RankSplit.{RankSplit, rank_split}
-
-pub all_append : {A : Type 0} (P : A → Type 0) (xs ys : List A) → AllByRecursion P xs → AllByRecursion P ys → AllByRecursion P (xs ++ ys)
-all_append P [] ys h i = i
-all_append P (x ∷ xs) ys h i = (h.0, all_append P xs ys h.1 i)
-
-pub all_weaker : {A : Type 0} (P Q : A → Type 0) → ((x : A) → P x → Q x) → (xs : List A) → AllByRecursion P xs → AllByRecursion Q xs
-all_weaker P Q w [] h = tt
-all_weaker P Q w (x ∷ xs) h = (w x h.0, all_weaker P Q w xs h.1)
-
-pub all_take : {A : Type 0} (P : A → Type 0) (n : ℕ) (xs : List A) → AllByRecursion P xs → AllByRecursion P (take n xs)
-all_take P zero xs h = tt
-all_take P (suc n) [] h = tt
-all_take P (suc n) (x ∷ xs) h = (h.0, all_take P n xs h.1)
-
-pub all_drop : {A : Type 0} (P : A → Type 0) (n : ℕ) (xs : List A) → AllByRecursion P xs → AllByRecursion P (drop n xs)
-all_drop P zero xs h = h
-all_drop P (suc n) [] h = tt
-all_drop P (suc n) (x ∷ xs) h = all_drop P n xs h.1
-
-pub all_both : {A : Type 0} (P Q : A → Type 0) (xs : List A) → AllByRecursion P xs → AllByRecursion Q xs → AllByRecursion (λ x. P x × Q x) xs
-all_both P Q [] h i = tt
-all_both P Q (x ∷ xs) h i = ((h.0, i.0), all_both P Q xs h.1 i.1)
-
-pub length-column : (vs : List (List ℕ)) (p : ℕ) → length (column p vs) ≡ length vs
-length-column [] p = refl
-length-column (v ∷ vs) p = ap suc (length-column vs p)
+use Rattle.linear_laws.proofs.Alls.{all_append, all_weaker, all_take, all_both, all_at}
+use Rattle.linear_laws.proofs.Solve.{length-column}
 
 module _ (k : Ops) (f : IsField k) where
   pub in_span_trans : (n : ℕ) (rows others : List (List ℕ)) (v : List ℕ) → IsMatrix k n others → AllByRecursion (InSpan k n others) rows → InSpan k n rows v → InSpan k n others v
@@ -146,9 +123,9 @@ module _ (k : Ops) (f : IsField k) where
         elim (dec_lt i rank) [
           | yes li ↦
               subst (InSpan k cols (take rank after)) (same_row i li ∙ get_or_default after i [] d lt)
-              (all_at k f (InSpan k cols (take rank after)) (take rank after) i [] (omega arith) (span_rows k f cols (take rank after) m))
+              (all_at (InSpan k cols (take rank after)) (take rank after) i [] (omega arith) (span_rows k f cols (take rank after) m))
           | no n ↦
-              let v : IsVector k cols (row_at after i) = all_at k f (IsVector k cols) after i [] lt h.matrix in
+              let v : IsVector k cols (row_at after i) = all_at (IsVector k cols) after i [] lt h.matrix in
               let lv : length (row_at after i) ≡ cols = v.long in
               let z : row_at after i ≡ replicate cols 0 =
               ext_get_or 0 (row_at after i) (replicate cols 0) (v.long ∙ sym (length-replicate cols 0))
@@ -208,11 +185,6 @@ module _ (k : Ops) (f : IsField k) where
       let C : IsVector k n (combination k n cs vs) = combination-vector k f n cs vs a.1 in
       ap (λ (w : List ℕ). plus_scaled k c w v) (combination-append n cs gs vs ws a.1 b (omega arith))
       ∙ regroup c (combination k n gs ws) (combination k n cs vs) v (G.long ∙ sym a.0.long) (C.long ∙ sym a.0.long)
-
-  pub take_zeros : (m n : ℕ) → m ≤ n → take {A = ℕ} m (replicate n 0) ≡ replicate m 0
-  take_zeros zero n le = refl
-  take_zeros (suc m) zero le = absurd (omega arith)
-  take_zeros (suc m) (suc n) le = ap (λ (r : List ℕ). 0 ∷ r) (take_zeros m n (omega arith))
 
   pub take_front : (xs ys : List ℕ) → take (length xs) (xs ++ ys) ≡ xs
   take_front [] ys = refl
@@ -289,7 +261,7 @@ module _ (k : Ops) (f : IsField k) where
                 elements = all_append (λ x. x < k.size) cs gs v.elements vg.elements;
               } in
               let all : cs ++ gs ≡ replicate (length (e.new ++ bs)) 0 = e.independent (cs ++ gs) vall z in
-              sym (take_front cs gs) ∙ (ap (take (length cs)) all ∙ (ap (λ (j : ℕ). take j (replicate (length (e.new ++ bs)) 0)) v.long ∙ take_zeros (length e.new) (length (e.new ++ bs)) (omega arith)));
+              sym (take_front cs gs) ∙ (ap (take (length cs)) all ∙ (ap (λ (j : ℕ). take j (replicate (length (e.new ++ bs)) 0)) v.long ∙ take-replicate (length e.new) (length (e.new ++ bs)) 0 (omega arith)));
         };
         count = omega arith;
       }

@@ -1,7 +1,7 @@
 use Rattle.std.proofs.Common.{◌≡◌, ℕ, zero, suc, ◌<◌, List, [], ◌∷◌, length, get_or, refl, ap, sym, ◌∙◌, arith}
 use Rattle.small_field.specs.Field.{Ops, IsField}
 use Rattle.linear_laws.specs.Vectors.{dot, column, entry, bump}
-use Rattle.linear_laws.proofs.Dot.{add_mul}
+use Rattle.small_field.proofs.CallerLemmas.{add_mul}
 
 pub column_entry : (rows : List (List ℕ)) (j i : ℕ) → i < length rows → get_or (column j rows) i 0 ≡ entry rows i j
 column_entry [] j i lt = absurd (omega arith)

@@ -1,27 +1,21 @@
 use Rattle.std.proofs.Common.{◌≡◌, ◌≢◌, ℕ, zero, suc, ◌<◌, ◌⊎◌, inl, inr, List, [], ◌∷◌, ◌++◌, length, map, replicate, get_or, refl, ap, sym, ◌∙◌, arith, subst}
 use Rattle.std.specs.List.{AllByRecursion}
-use Rattle.std.proofs.lemmas.List.{ext_get_or}
+use Rattle.std.proofs.lemmas.List.{ext_get_or, nil_from_length}
 use Rattle.std.proofs.lemmas.Simd.{length-replicate, get_or-replicate, get_or-zip2}
 use Rattle.small_field.specs.Field.{Ops, IsField}
-pub use Rattle.small_field.proofs.Laws.{neg_neg, factor_zero}
-use Rattle.linear_laws.specs.Vectors.{dot, column, AreElements, IsVector, IsMatrix, combination, IsIndependent, IsRelated}
-use Rattle.linear_laws.proofs.Dot.{add_zero, neg_unique, mul_neg, dot_below, dot_zeros, dot_added, dot_comm}
-use Rattle.linear_laws.proofs.Solve.{first, rest, find_pivot, Solution, reduced, first_unknown, insert_all, remove_all, rest_long, first_below, dot_first, reduced_matrix, lift_all, pivot_holds, replicate_below, unit_holds, columns, columns_matrix, at_column}
+use Rattle.linear_laws.specs.Vectors.{dot, column, IsVector, IsMatrix, combination, IsIndependent, IsRelated}
+use Rattle.small_field.specs.Values.{AreElements}
+use Rattle.linear_laws.proofs.Dot.{dot_below, dot_zeros, dot_added, dot_comm}
+use Rattle.small_field.proofs.CallerLemmas.{add_zero, neg_unique, mul_neg, neg_neg, factor_zero}
+use Rattle.linear_laws.proofs.Solve.{first, rest, find_pivot, Solution, reduced, first_unknown, rest_long, first_below, dot_first, reduced_matrix, lift_all, pivot_holds, replicate_below, unit_holds, columns, columns_matrix, at_column}
 use Rattle.linear_laws.proofs.Span.{combination-vector}
+use Rattle.linear_laws.proofs.Alls.{insert_all, remove_all}
 
 -- only zero solves the equations
 abbrev pub OnlyZero : Ops → ℕ → List (List ℕ) → Type 0
 OnlyZero k m rows = (xs : List ℕ) → IsVector k m xs → AllByRecursion (λ r. dot k r xs ≡ 0) rows → xs ≡ replicate m 0
 
 module _ (k : Ops) (f : IsField k) where
-  -- x + y is zero: y is the negative of x
-  pub neg_of_sum : (x y : ℕ) → y < k.size → k.add x y ≡ 0 → y ≡ k.neg x
-  neg_of_sum x y h e = neg_unique k f x y h e
-
-  pub empty_is : (xs : List ℕ) → length xs ≡ 0 → xs ≡ []
-  empty_is [] h = refl
-  empty_is (x ∷ xs) h = absurd (omega arith)
-
   -- what holds of two rows holds of what is left of the second
   lower : (m : ℕ) (e r : List ℕ) (x : ℕ) (xs : List ℕ) → length e ≡ suc m → length r ≡ suc m → length xs ≡ m → AreElements k e → AreElements k r → first e ≢ 0 → dot k e (x ∷ xs) ≡ 0 → dot k r (x ∷ xs) ≡ 0 → dot k (reduced k e r) xs ≡ 0
   lower m e r x xs he hr hx els elr ne ze zr =
@@ -29,7 +23,7 @@ module _ (k : Ops) (f : IsField k) where
       let c : ℕ = k.mul (first r) (k.inv a) in
       let E : ℕ = dot k (rest e) xs in
       let R : ℕ = dot k (rest r) xs in
-      let eE : E ≡ k.neg (k.mul a x) = neg_of_sum (k.mul a x) E (dot_below k f (rest e) xs) (sym (dot_first k f e m x xs he) ∙ ze) in
+      let eE : E ≡ k.neg (k.mul a x) = neg_unique k f (k.mul a x) E (dot_below k f (rest e) xs) (sym (dot_first k f e m x xs he) ∙ ze) in
       let one : k.mul (k.inv a) a ≡ 1 = f.mul_comm (k.inv a) a ∙ f.mul_inv a (first_below k f e els) ne in
       let cax : k.mul c (k.mul a x) ≡ k.mul (first r) x =
       f.mul_assoc (first r) (k.inv a) (k.mul a x)
@@ -60,7 +54,7 @@ module _ (k : Ops) (f : IsField k) where
       ap (λ (n : ℕ). n ∷ ys) x0 ∙ ap (λ (r : List ℕ). 0 ∷ r) z
 
   pub solve_or_zero : (m : ℕ) (rows : List (List ℕ)) → IsMatrix k m rows → Solution k m rows ⊎ OnlyZero k m rows
-  solve_or_zero zero rows a = inr (λ xs v h. empty_is xs v.long)
+  solve_or_zero zero rows a = inr (λ xs v h. nil_from_length xs v.long)
   solve_or_zero (suc m) rows a =
       elim (find_pivot rows) [
         | inl none ↦

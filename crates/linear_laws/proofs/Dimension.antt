@@ -3,11 +3,12 @@ use Rattle.std.specs.List.{AllByRecursion}
 use native.Mathlib.Decide.{dec_lt}
 use Prim.{yes, no}
 use Rattle.small_field.specs.Field.{Ops, IsField}
-use Rattle.linear_laws.specs.Vectors.{AreElements, IsVector, IsMatrix, IsNonzero, IsDependent, plus_scaled, combination, InSpan, IsIndependent}
-use Rattle.linear_laws.proofs.Dot.{mul_neg}
+use Rattle.linear_laws.specs.Vectors.{IsVector, IsMatrix, IsNonzero, IsDependent, plus_scaled, combination, InSpan, IsIndependent}
+use Rattle.small_field.specs.Values.{AreElements}
+use Rattle.small_field.proofs.CallerLemmas.{mul_neg, neg_unique}
 use Rattle.linear_laws.proofs.Solve.{more_are_dependent, rest}
 use Rattle.linear_laws.proofs.Span.{combination-vector, combination-zeros, combination-plus, zero_times}
-use Rattle.linear_laws.proofs.Decide.{decide, zeros_of_dots, neg_of_sum}
+use Rattle.linear_laws.proofs.Decide.{decide, zeros_of_dots}
 use Rattle.linear_laws.proofs.Scaled.{same_or_not, span_scaled}
 
 zeros_at : (m i : ℕ) → ◌≡◌ {A = ℕ} (get_or (replicate m 0) i 0) 0
@@ -30,7 +31,7 @@ module _ (k : Ops) (f : IsField k) where
       let here : k.add x (k.mul c y) ≡ 0 = ap (λ (r : List ℕ). get_or r 0 0) e in
       let more : plus_scaled k c w v ≡ replicate n 0 = ap rest e in
       let one : k.mul (k.inv c) c ≡ 1 = f.mul_comm (k.inv c) c ∙ f.mul_inv c lc ne in
-      let cy : k.mul c y ≡ k.neg x = neg_of_sum k f x (k.mul c y) (f.mul_below c y) here in
+      let cy : k.mul c y ≡ k.neg x = neg_unique k f x (k.mul c y) (f.mul_below c y) here in
       let is : y ≡ k.mul (k.neg (k.inv c)) x =
       sym (f.one_mul y el.0) ∙ (ap (λ (m : ℕ). k.mul m y) (sym one) ∙ (f.mul_assoc (k.inv c) c y ∙ (ap (k.mul (k.inv c)) cy ∙ (mul_neg k f (k.inv c) x
       ∙ sym (f.mul_comm (k.neg (k.inv c)) x ∙ (mul_neg k f x (k.inv c) ∙ ap k.neg (f.mul_comm x (k.inv c)))))))) in

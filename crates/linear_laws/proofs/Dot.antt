@@ -1,6 +1,6 @@
 use Rattle.std.proofs.Common.{◌≡◌, ℕ, zero, suc, ◌<◌, List, [], ◌∷◌, length, replicate, refl, ap, sym, ◌∙◌, arith}
 use Rattle.small_field.specs.Field.{Ops, IsField}
-pub use Rattle.small_field.proofs.Laws.{zero_below, add_zero, double_is_zero, mul_zero, zero_mul, add_swap, add_mul, neg_unique, mul_neg, neg_mul, neg_zero, neg_add}
+use Rattle.small_field.proofs.CallerLemmas.{zero_below, mul_zero, add_swap, add_mul}
 use Rattle.linear_laws.specs.Vectors.{dot, plus_scaled}
 
 module _ (k : Ops) (f : IsField k) where

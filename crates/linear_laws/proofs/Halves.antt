@@ -1,34 +1,17 @@
-use Rattle.std.proofs.Common.{◌≡◌, ℕ, zero, suc, ◌+◌, ◌<◌, ◌≤◌, ◌⊎◌, inl, inr, List, [], ◌∷◌, ◌++◌, length, map, take, drop, replicate, length-drop, refl, ap, sym, ◌∙◌, arith, subst}
+use Rattle.std.proofs.Common.{◌≡◌, ℕ, zero, suc, ◌+◌, ◌-◌, ◌<◌, ◌≤◌, ◌⊎◌, inl, inr, List, [], ◌∷◌, ◌++◌, length, map, take, drop, replicate, length-drop, refl, ap, sym, ◌∙◌, arith, subst}
 use Rattle.std.specs.List.{AllByRecursion}
-use Rattle.std.proofs.lemmas.List.{length-take-le}
+use Rattle.std.proofs.lemmas.List.{length-take-le, take-replicate, drop-replicate, nil_from_length}
 use Rattle.std.proofs.Math.Seq.{drop-append_seam}
 use Rattle.small_field.specs.Field.{Ops, IsField}
 use Rattle.linear_laws.specs.Marks.{lefts, rights}
 use Rattle.linear_laws.specs.Vectors.{IsVector, IsMatrix, plus_scaled, combination, InSpan, IsIndependent, row_at}
 use Rattle.linear_laws.proofs.Span.{combination-vector, span_rows, span_all_more, zeros_plus}
 use Rattle.linear_laws.proofs.Dimension.{in_span_or_not, no_more}
-use Rattle.linear_laws.proofs.Betti.{all_take, all_drop, all_weaker, in_span_trans}
-
-pub drop_at : (xs ys : List ℕ) (c : ℕ) → length xs ≡ c → drop c (xs ++ ys) ≡ ys
-drop_at xs ys c long = subst (λ (n : ℕ). drop n (xs ++ ys) ≡ ys) long (drop-append_seam xs ys)
-
-pub row_at-map : (g : List ℕ → List ℕ) (rows : List (List ℕ)) (i : ℕ) → i < length rows → row_at (map g rows) i ≡ g (row_at rows i)
-row_at-map g [] i lt = absurd (omega arith)
-row_at-map g (r ∷ rows) zero lt = refl
-row_at-map g (r ∷ rows) (suc i) lt = row_at-map g rows i (omega arith)
-
-no_coefficients : (cs : List ℕ) → length cs ≡ 0 → cs ≡ []
-no_coefficients [] h = refl
-no_coefficients (c ∷ cs) h = absurd (omega arith)
-
-pub take_zeros : (m n : ℕ) → take m (replicate {A = ℕ} (m + n) 0) ≡ replicate m 0
-take_zeros zero n = refl
-take_zeros (suc m) n =
-    ap (λ (j : ℕ). take (suc m) (replicate {A = ℕ} j 0)) (let e : suc m + n ≡ suc (m + n) = omega arith in e) ∙ ap (λ (r : List ℕ). 0 ∷ r) (take_zeros m n)
+use Rattle.linear_laws.proofs.Betti.{in_span_trans}
+use Rattle.linear_laws.proofs.Alls.{all_weaker, all_take, all_drop}
 
 pub drop_zeros : (m n : ℕ) → drop m (replicate {A = ℕ} (m + n) 0) ≡ replicate n 0
-drop_zeros zero n = ap (λ (j : ℕ). replicate {A = ℕ} j 0) (let e : 0 + n ≡ n = omega arith in e)
-drop_zeros (suc m) n = ap (λ (j : ℕ). drop (suc m) (replicate {A = ℕ} j 0)) (let e : suc m + n ≡ suc (m + n) = omega arith in e) ∙ drop_zeros m n
+drop_zeros m n = drop-replicate m (m + n) 0 ∙ ap (λ (j : ℕ). replicate {A = ℕ} j 0) (let e : m + n - m ≡ n = omega arith in e)
 
 module _ (k : Ops) (f : IsField k) where
   pub take-plus_scaled : (m s : ℕ) (xs ys : List ℕ) → take m (plus_scaled k s xs ys) ≡ plus_scaled k s (take m xs) (take m ys)
@@ -46,8 +29,8 @@ module _ (k : Ops) (f : IsField k) where
 
   -- the halves of a combination are combinations of the halves
   pub take-combination : (m n : ℕ) (cs : List ℕ) (rows : List (List ℕ)) → take m (combination k (m + n) cs rows) ≡ combination k m cs (lefts m rows)
-  take-combination m n [] rows = take_zeros m n
-  take-combination m n (c ∷ cs) [] = take_zeros m n
+  take-combination m n [] rows = take-replicate m (m + n) 0 (omega arith)
+  take-combination m n (c ∷ cs) [] = take-replicate m (m + n) 0 (omega arith)
   take-combination m n (c ∷ cs) (r ∷ rows) =
       take-plus_scaled m c (combination k (m + n) cs rows) r ∙ ap (λ (w : List ℕ). plus_scaled k c w (take m r)) (take-combination m n cs rows)
 
@@ -89,7 +72,7 @@ module _ (k : Ops) (f : IsField k) where
     pub fewer : (some ≡ us) ⊎ (length some < length us)
 
   pub choose : (n : ℕ) (us : List (List ℕ)) → IsMatrix k n us → Chosen n us
-  choose n [] a = record { some = []; matrix = tt; independent = λ cs v e. no_coefficients cs v.long; spans = tt; inside = tt; fewer = inl refl }
+  choose n [] a = record { some = []; matrix = tt; independent = λ cs v e. nil_from_length cs v.long; spans = tt; inside = tt; fewer = inl refl }
   choose n (u ∷ us) a =
       let c : Chosen n us = choose n us a.1 in
       elim (in_span_or_not k f n c.some u c.matrix a.0 c.independent) [

@@ -1,16 +1,17 @@
 use Rattle.std.proofs.Common.{◌≡◌, ℕ, ◌+◌, ◌-◌, ◌<◌, ◌≤◌, List, [], ◌∷◌, ◌++◌, length, length-append, length-drop, map, take, drop, replicate, get_or, refl, ap, sym, ◌∙◌, arith, subst}
 use Rattle.std.specs.List.{AllByRecursion}
 use Rattle.std.proofs.lemmas.Simd.{length-replicate, get_or-replicate}
-use Rattle.std.proofs.lemmas.List.{length-map, length-take-le, take-append-drop, take_at, get_or-take, get_or-drop, drop-map, get_or_default, ext_get_or}
+use Rattle.std.proofs.lemmas.List.{length-map, length-take-le, take-append-drop, take_at, get_or-take, get_or-drop, drop-map, get_or_default, ext_get_or, drop_at, replicate-append-replicate, get_or-map}
 use Rattle.std.proofs.lemmas.List.Elements.{recursion_from_All}
 use Rattle.small_field.specs.Field.{Ops, IsField}
 use Rattle.linear_laws.specs.Marks.{identity, beside, lefts, rights}
 use Rattle.linear_laws.specs.Vectors.{IsVector, IsMatrix, plus_scaled, combination, InSpan, SameSpan, IsIndependent, IsInKernel, IsKernelBasis, IsHistory, row_at, entry}
 use Rattle.linear_laws.specs.Echelon.{IsReducedTo, IsReducedBelow}
-use Rattle.linear_laws.proofs.Span.{combination-vector, combination-zeros, zeros-elements, one_times, span_rows, all_at}
-use Rattle.linear_laws.proofs.Betti.{all_append, all_take, all_drop, all_weaker, combination-append, plus_zeros, pivots_independent}
-use Rattle.linear_laws.proofs.Marks.{length-identity, identity_matrix, combination-identity, length-beside, beside_matrix, combination-beside, zeros_append}
-use Rattle.linear_laws.proofs.Halves.{drop_at, drop_zeros, row_at-map, take-combination, drop-combination, left_vector, left_matrix, right_matrix, combination_of_zeros, as_few_are_independent}
+use Rattle.linear_laws.proofs.Span.{combination-vector, combination-zeros, zeros-elements, one_times, span_rows}
+use Rattle.linear_laws.proofs.Betti.{combination-append, plus_zeros, pivots_independent}
+use Rattle.linear_laws.proofs.Marks.{length-identity, identity_matrix, combination-identity, length-beside, beside_matrix, combination-beside}
+use Rattle.linear_laws.proofs.Halves.{drop_zeros, take-combination, drop-combination, left_vector, left_matrix, right_matrix, combination_of_zeros, as_few_are_independent}
+use Rattle.linear_laws.proofs.Alls.{all_append, all_weaker, all_take, all_drop, all_at}
 
 -- rows with the identity beside them, reduced on the left
 module _ (k : Ops) (f : IsField k) (m n r : ℕ) (rows after : List (List ℕ)) (a : IsMatrix k m rows) (long : length rows ≡ n) (h : IsReducedTo k (m + n) r m (beside rows (identity n)) after) where
@@ -52,7 +53,7 @@ module _ (k : Ops) (f : IsField k) (m n r : ℕ) (rows after : List (List ℕ)) 
   pub history : (i : ℕ) → i < n → (take m (row_at after i) ≡ combination k m (drop m (row_at after i)) rows) × IsVector k n (drop m (row_at after i))
   history i lt =
       let li : i < length after = subst (λ (j : ℕ). i < j) (sym long_after) lt in
-      told_by_right (row_at after i) (h.span.back (row_at after i) (all_at k f (InSpan k (m + n) after) after i [] li (span_rows k f (m + n) after h.matrix)))
+      told_by_right (row_at after i) (h.span.back (row_at after i) (all_at (InSpan k (m + n) after) after i [] li (span_rows k f (m + n) after h.matrix)))
 
   -- the left halves span what the rows spanned
   pub left_span : SameSpan k m rows (lefts m after)
@@ -80,7 +81,7 @@ module _ (k : Ops) (f : IsField k) (m n r : ℕ) (rows after : List (List ℕ)) 
   }
 
   left_entry : (i j : ℕ) → i < length after → j < m → entry (lefts m after) i j ≡ entry after i j
-  left_entry i j li lj = ap (λ (w : List ℕ). get_or w j 0) (row_at-map (take m) after i li) ∙ get_or-take m (row_at after i) j 0 lj
+  left_entry i j li lj = ap (λ (w : List ℕ). get_or w j 0) (get_or-map (take m) after i [] [] li) ∙ get_or-take m (row_at after i) j 0 lj
 
   -- the left halves are a reduced form of the rows
   pub left_reduced : IsReducedTo k m r m rows (lefts m after)
@@ -116,7 +117,7 @@ module _ (k : Ops) (f : IsField k) (m n r : ℕ) (rows after : List (List ℕ)) 
   -- the left halves from the rank on are zero
   pub left_zeros : (i : ℕ) → r ≤ i → i < length after → take m (row_at after i) ≡ replicate m 0
   left_zeros i le lt =
-      let v : IsVector k (m + n) (row_at after i) = all_at k f (IsVector k (m + n)) after i [] lt h.matrix in
+      let v : IsVector k (m + n) (row_at after i) = all_at (IsVector k (m + n)) after i [] lt h.matrix in
       let w : IsVector k m (take m (row_at after i)) = left_vector k f m n (row_at after i) v in
       let e : length h.pivots ≡ r = h.rank_is in
       let lw : length (take m (row_at after i)) ≡ m = w.long in
@@ -130,7 +131,7 @@ module _ (k : Ops) (f : IsField k) (m n r : ℕ) (rows after : List (List ℕ)) 
       let total : length (drop r (lefts m after)) ≡ length after - r = length-drop r (lefts m after) ∙ ap (λ (j : ℕ). j - r) (length-map after (take m)) in
       let li : r + i < length after = omega arith in
       sym (get_or_default (drop r (lefts m after)) i [] d lt)
-      ∙ (get_or-drop r (lefts m after) i [] ∙ (row_at-map (take m) after (r + i) li ∙ left_zeros (r + i) (omega arith) li)))
+      ∙ (get_or-drop r (lefts m after) i [] ∙ (get_or-map (take m) after (r + i) [] [] li ∙ left_zeros (r + i) (omega arith) li)))
 
   -- the right halves from the rank on
   abbrev pub kernel_rows : List (List ℕ)
@@ -152,7 +153,7 @@ module _ (k : Ops) (f : IsField k) (m n r : ℕ) (rows after : List (List ℕ)) 
   kernel_row i lt =
       let l : length kernel_rows ≡ length after - r = length_kernel_after in
       let li : r + i < length after = omega arith in
-      (get_or-drop r (rights m after) i [] ∙ row_at-map (drop m) after (r + i) li, li)
+      (get_or-drop r (rights m after) i [] ∙ get_or-map (drop m) after (r + i) [] [] li, li)
 
   pub kernel_inside : AllByRecursion (IsInKernel k m rows) kernel_rows
   kernel_inside =
@@ -245,7 +246,7 @@ module _ (k : Ops) (f : IsField k) (m n r : ℕ) (rows after : List (List ℕ)) 
       take-combination k f m n cs D ∙ (ap (combination k m cs) (sym (drop-map (take m) r after)) ∙ combination_of_zeros k f m cs (drop r (lefts m after)) left_zero_rows) in
       let right : drop m C ≡ replicate n 0 = drop-combination k f m n cs D mD ∙ (ap (combination k n cs) (sym kernel_is) ∙ z) in
       let none : C ≡ replicate (m + n) 0 =
-      sym (take-append-drop m C) ∙ (ap (λ (w : List ℕ). w ++ drop m C) left ∙ (ap (λ (w : List ℕ). replicate m 0 ++ w) right ∙ sym (zeros_append k f m n))) in
+      sym (take-append-drop m C) ∙ (ap (λ (w : List ℕ). w ++ drop m C) left ∙ (ap (λ (w : List ℕ). replicate m 0 ++ w) right ∙ replicate-append-replicate {A = ℕ} m n 0)) in
       let e : List ℕ = replicate r 0 ++ cs in
       let lz : length (replicate {A = ℕ} r 0) ≡ r = length-replicate r 0 in
       let lcs : length cs ≡ length kernel_rows = v.long in
@@ -292,7 +293,7 @@ module _ (k : Ops) (f : IsField k) (m n r : ℕ) (rows after : List (List ℕ)) 
       let p : InSpan k (m + n) (beside rows (identity n)) C = h.span.back C (record { coefficients = cs; vector = w; is = refl }) in
       let left : take m C ≡ replicate m 0 = (told_by_right C p).0 ∙ (ap (λ (xs : List ℕ). combination k m xs rows) right ∙ combination-zeros k f m n rows a) in
       let none : C ≡ replicate (m + n) 0 =
-      sym (take-append-drop m C) ∙ (ap (λ (u : List ℕ). u ++ drop m C) left ∙ (ap (λ (u : List ℕ). replicate m 0 ++ u) right ∙ sym (zeros_append k f m n))) in
+      sym (take-append-drop m C) ∙ (ap (λ (u : List ℕ). u ++ drop m C) left ∙ (ap (λ (u : List ℕ). replicate m 0 ++ u) right ∙ replicate-append-replicate {A = ℕ} m n 0)) in
       after_independent cs w none ∙ ap (λ (j : ℕ). replicate {A = ℕ} j 0) (sym lr)
 
   -- the right halves are the history of the left ones

@@ -5,11 +5,12 @@ use Rattle.linear_laws.specs.Laws.{BasesAreAsLong, RowsHaveABasis, RankIsDimensi
 use Rattle.linear_laws.proofs.Span.{combination-vector, combination-zeros, combination-plus, span_rows, same_span}
 use Rattle.linear_laws.proofs.Decide.{entry_combination}
 use Rattle.linear_laws.proofs.Dimension.{combination_twice, no_more}
-use Rattle.linear_laws.proofs.Betti.{all_weaker, in_span_trans, combination-append, rank_is_dimension}
+use Rattle.linear_laws.proofs.Betti.{in_span_trans, combination-append, rank_is_dimension}
 use Rattle.linear_laws.proofs.Halves.{Chosen, choose}
 use Rattle.linear_laws.proofs.Linear.{functional_of_combination}
 use Rattle.linear_laws.proofs.Adjoint.{adjoint}
 use Rattle.linear_laws.proofs.Bump.{dot_bumped}
+use Rattle.linear_laws.proofs.Alls.{all_weaker}
 
 module _ (k : Ops) (f : IsField k) where
   -- a basis is no longer than another

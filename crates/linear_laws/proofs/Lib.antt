@@ -1,16 +1,18 @@
-pub mod Dot
-pub mod Span
-pub mod Solve
-pub mod Decide
-pub mod Scaled
-pub mod Dimension
-pub mod RankSplit
-pub mod Betti
-pub mod Adjoint
-pub mod Bump
-pub mod Triangles
-pub mod Linear
-pub mod Laws
-pub mod Marks
-pub mod Halves
-pub mod History
+pub mod CallerLemmas
+mod Alls
+mod Dot
+mod Span
+mod Solve
+mod Decide
+mod Scaled
+mod Dimension
+mod RankSplit
+mod Betti
+mod Adjoint
+mod Bump
+mod Triangles
+mod Linear
+mod Laws
+mod Marks
+mod Halves
+mod History

@@ -1,12 +1,14 @@
 use Rattle.std.proofs.Common.{◌≡◌, ℕ, zero, suc, ◌+◌, ◌<◌, List, [], ◌∷◌, ◌++◌, length, length-append, length-set, replicate, get_or, refl, ap, sym, ◌∙◌, arith}
 use Rattle.std.proofs.lemmas.Simd.{length-replicate}
+use Rattle.std.proofs.lemmas.List.{replicate-append-replicate}
 use Rattle.small_field.specs.Field.{Ops, IsField}
 use Rattle.linear_laws.specs.Marks.{mark, shifted, identity, beside}
 use Rattle.linear_laws.specs.Vectors.{dot, IsVector, IsMatrix, plus_scaled, combination, row_at}
-use Rattle.linear_laws.proofs.Dot.{add_zero, mul_zero, zero_mul, dot_zeros, dot_comm, dot_below}
-use Rattle.linear_laws.proofs.Span.{combination-vector, combination-zeros, zeros-elements, one_times, zero_times, all_set}
-use Rattle.linear_laws.proofs.Betti.{all_append}
+use Rattle.linear_laws.proofs.Dot.{dot_zeros, dot_comm, dot_below}
+use Rattle.small_field.proofs.CallerLemmas.{add_zero, mul_zero, zero_mul}
+use Rattle.linear_laws.proofs.Span.{combination-vector, combination-zeros, zeros-elements, one_times, zero_times}
 use Rattle.linear_laws.proofs.RankSplit.{length-shifted, shifted_matrix, combination-shifted}
+use Rattle.linear_laws.proofs.Alls.{all_append, all_set}
 
 pub length-identity : (n : ℕ) → length (identity n) ≡ n
 length-identity zero = refl
@@ -79,10 +81,6 @@ module _ (k : Ops) (f : IsField k) where
   plus_scaled-append s (x ∷ xs) ys [] vs same = absurd (omega arith)
   plus_scaled-append s (x ∷ xs) ys (u ∷ us) vs same = ap (λ (r : List ℕ). k.add x (k.mul s u) ∷ r) (plus_scaled-append s xs ys us vs (omega arith))
 
-  pub zeros_append : (m n : ℕ) → replicate {A = ℕ} (m + n) 0 ≡ replicate m 0 ++ replicate n 0
-  zeros_append zero n = ap (λ (j : ℕ). replicate {A = ℕ} j 0) (let e : 0 + n ≡ n = omega arith in e)
-  zeros_append (suc m) n = ap (λ (j : ℕ). replicate {A = ℕ} j 0) (let e : suc m + n ≡ suc (m + n) = omega arith in e) ∙ ap (λ (r : List ℕ). 0 ∷ r) (zeros_append m n)
-
   pub beside_matrix : (m n : ℕ) (rows others : List (List ℕ)) → IsMatrix k m rows → IsMatrix k n others → IsMatrix k (m + n) (beside rows others)
   beside_matrix m n [] others a b = tt
   beside_matrix m n (r ∷ rows) [] a b = tt
@@ -92,8 +90,8 @@ module _ (k : Ops) (f : IsField k) where
       (record { long = length-append r s ∙ omega arith; elements = all_append (λ x. x < k.size) r s a.0.elements b.0.elements }, beside_matrix m n rows others a.1 b.1)
 
   pub combination-beside : (m n : ℕ) (cs : List ℕ) (rows others : List (List ℕ)) → IsMatrix k m rows → IsMatrix k n others → length rows ≡ length others → combination k (m + n) cs (beside rows others) ≡ combination k m cs rows ++ combination k n cs others
-  combination-beside m n [] rows others a b same = zeros_append m n
-  combination-beside m n (c ∷ cs) [] [] a b same = zeros_append m n
+  combination-beside m n [] rows others a b same = sym (replicate-append-replicate {A = ℕ} m n 0)
+  combination-beside m n (c ∷ cs) [] [] a b same = sym (replicate-append-replicate {A = ℕ} m n 0)
   combination-beside m n (c ∷ cs) [] (s ∷ others) a b same = absurd (omega arith)
   combination-beside m n (c ∷ cs) (r ∷ rows) [] a b same = absurd (omega arith)
   combination-beside m n (c ∷ cs) (r ∷ rows) (s ∷ others) a b same =
@@ -112,7 +110,7 @@ module _ (k : Ops) (f : IsField k) where
       zero_times k f (combination k m (mark n p) rows) r (C.long ∙ sym a.0.long) C.elements ∙ combination-mark m n p rows a.1 (omega arith) (omega arith)
 
   pub mark_vector : (n p : ℕ) → IsVector k n (mark n p)
-  mark_vector n p = record { long = length-mark n p; elements = all_set k f (λ x. x < k.size) (replicate n 0) p 1 f.one_below (zeros-elements k f n) }
+  mark_vector n p = record { long = length-mark n p; elements = all_set (λ x. x < k.size) (replicate n 0) p 1 f.one_below (zeros-elements k f n) }
 
   -- a mark reads the number there
   pub dot_mark : (n p : ℕ) (us : List ℕ) → IsVector k n us → p < n → dot k (mark n p) us ≡ get_or us p 0

@@ -1,13 +1,14 @@
 use Rattle.std.proofs.Common.{◌≡◌, ℕ, suc, ◌+◌, ◌<◌, inl, inr, List, [], ◌∷◌, length, replicate, get_or, refl, ap, sym, ◌∙◌, arith, subst}
 use Rattle.std.specs.List.{AllByRecursion}
 use Rattle.std.proofs.lemmas.Simd.{length-replicate}
+use Rattle.std.proofs.lemmas.List.{nil_from_length}
 use Rattle.linear_laws.specs.Marks.{shifted}
 use Rattle.small_field.specs.Field.{Ops, IsField}
-use Rattle.linear_laws.specs.Vectors.{AreElements, IsVector, IsMatrix, plus_scaled, combination, InSpan, IsIndependent, IsInKernel}
-use Rattle.linear_laws.proofs.Dot.{zero_below, add_zero, mul_zero, mul_neg}
+use Rattle.linear_laws.specs.Vectors.{IsVector, IsMatrix, plus_scaled, combination, InSpan, IsIndependent, IsInKernel}
+use Rattle.small_field.specs.Values.{AreElements}
+use Rattle.small_field.proofs.CallerLemmas.{zero_below, add_zero, mul_zero, mul_neg, neg_neg}
 use Rattle.linear_laws.proofs.Solve.{rest}
 use Rattle.linear_laws.proofs.Span.{combination-vector, combination-zeros, combination-plus, plus_scaled-vector, zero_times, zeros-elements, taken_back, span_rows, span_within, span_all_more}
-use Rattle.linear_laws.proofs.Decide.{neg_neg, empty_is}
 use Rattle.linear_laws.proofs.Dimension.{in_span_or_not}
 
 pub length-shifted : (zs : List (List ℕ)) → length (shifted zs) ≡ length zs
@@ -143,13 +144,13 @@ module _ (k : Ops) (f : IsField k) where
     us = [];
     zs = [];
     us_matrix = tt;
-    us_independent = λ cs v e. empty_is k f cs v.long;
+    us_independent = λ cs v e. nil_from_length cs v.long;
     spans = tt;
     inside = tt;
     zs_matrix = tt;
-    zs_independent = λ cs v e. empty_is k f cs v.long;
+    zs_independent = λ cs v e. nil_from_length cs v.long;
     kernel = tt;
-    complete = λ x h. record { coefficients = []; vector = record { long = refl; elements = tt }; is = sym (empty_is k f x h.vector.long) };
+    complete = λ x h. record { coefficients = []; vector = record { long = refl; elements = tt }; is = sym (nil_from_length x h.vector.long) };
     count = omega arith;
   }
   rank_split n (d ∷ rows) a =

@@ -1,12 +1,14 @@
 use Rattle.std.proofs.Common.{◌≡◌, ◌≢◌, ℕ, zero, suc, ◌<◌, List, [], ◌∷◌, length, length-set, map, replicate, get_or, get_or-set_same, set, refl, ap, sym, ◌∙◌, arith, subst, ◌⊎◌, inl, inr}
 use Rattle.std.specs.List.{AllByRecursion, SwappedAt}
-use Rattle.std.proofs.lemmas.List.{get_or_default}
+use Rattle.std.proofs.lemmas.List.{get_or_default, set-set, set-get_or}
 use Rattle.std.proofs.lemmas.List.Elements.{All-from_recursion, recursion_from_All}
 use native.Mathlib.Decide.{dec_lt}
 use Prim.{yes, no}
 use Rattle.small_field.specs.Field.{Ops, IsField}
-use Rattle.linear_laws.specs.Vectors.{AreElements, IsVector, IsMatrix, plus_scaled, InSpan, SameSpan, row_at}
-use Rattle.linear_laws.proofs.Span.{same_span, span_rows, span_zero, span_plus, all_at, all_set, set_set_same}
+use Rattle.linear_laws.specs.Vectors.{IsVector, IsMatrix, plus_scaled, InSpan, SameSpan, row_at}
+use Rattle.small_field.specs.Values.{AreElements}
+use Rattle.linear_laws.proofs.Span.{same_span, span_rows, span_zero, span_plus}
+use Rattle.linear_laws.proofs.Alls.{all_set, all_at}
 
 pub same_or_not : (a b : ℕ) → (a ≡ b) ⊎ (a ≢ b)
 same_or_not a b = elim (dec_lt a b) [ yes l ↦ inr (omega arith) | no m ↦ elim (dec_lt b a) [ yes l ↦ inr (omega arith) | no n ↦ inl (omega arith) ] ]
@@ -64,16 +66,16 @@ module _ (k : Ops) (f : IsField k) where
   scaling_keeps_span n c i rows a li lc ne =
       let x : List ℕ = row_at rows i in
       let w : List ℕ = map (k.mul c) x in
-      let vx : IsVector k n x = all_at k f (IsVector k n) rows i [] li a in
+      let vx : IsVector k n x = all_at (IsVector k n) rows i [] li a in
       let vw : IsVector k n w = scaled-vector n c x vx in
-      let b : IsMatrix k n (set rows i w) = all_set k f (IsVector k n) rows i w vw a in
+      let b : IsMatrix k n (set rows i w) = all_set (IsVector k n) rows i w vw a in
       let mine : AllByRecursion (InSpan k n rows) rows = span_rows k f n rows a in
       let theirs : AllByRecursion (InSpan k n (set rows i w)) (set rows i w) = span_rows k f n (set rows i w) b in
       let long : length (set rows i w) ≡ length rows = length-set rows i w in
-      let new : AllByRecursion (InSpan k n rows) (set rows i w) = all_set k f (InSpan k n rows) rows i w (span_scaled n c rows x a vx.long (all_at k f (InSpan k n rows) rows i [] li mine)) mine in
-      let w_in : InSpan k n (set rows i w) w = subst (InSpan k n (set rows i w)) (get_or-set_same rows i w [] li) (all_at k f (InSpan k n (set rows i w)) (set rows i w) i [] (omega arith) theirs) in
+      let new : AllByRecursion (InSpan k n rows) (set rows i w) = all_set (InSpan k n rows) rows i w (span_scaled n c rows x a vx.long (all_at (InSpan k n rows) rows i [] li mine)) mine in
+      let w_in : InSpan k n (set rows i w) w = subst (InSpan k n (set rows i w)) (get_or-set_same rows i w [] li) (all_at (InSpan k n (set rows i w)) (set rows i w) i [] (omega arith) theirs) in
       let x_in : InSpan k n (set rows i w) x = subst (InSpan k n (set rows i w)) (scaled_back c x lc ne vx.elements) (span_scaled n (k.inv c) (set rows i w) w b vw.long w_in) in
-      let old : AllByRecursion (InSpan k n (set rows i w)) rows = subst (AllByRecursion (InSpan k n (set rows i w))) (set_set_same k f rows i w [] li) (all_set k f (InSpan k n (set rows i w)) (set rows i w) i x x_in theirs) in
+      let old : AllByRecursion (InSpan k n (set rows i w)) rows = subst (AllByRecursion (InSpan k n (set rows i w))) (set-set rows i w (get_or rows i []) ∙ set-get_or rows i []) (all_set (InSpan k n (set rows i w)) (set rows i w) i x x_in theirs) in
       (b, same_span k f n rows (set rows i w) a b old new)
 
   -- rows a and b change places

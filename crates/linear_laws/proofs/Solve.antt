@@ -4,10 +4,14 @@ use Rattle.std.proofs.lemmas.Grind.{common_steps}
 use Rattle.std.proofs.lemmas.Simd.{length-zip2, length-replicate}
 use native.Mathlib.Decide.{dec_lt}
 use Prim.{yes, no}
-use Rattle.lane_rows.specs.Lanes.{zip2}
+use Rattle.small_field.specs.Lanes.{zip2}
 use Rattle.small_field.specs.Field.{Ops, IsField}
-use Rattle.linear_laws.specs.Vectors.{dot, column, AreElements, IsVector, IsMatrix, IsNonzero, IsDependent}
-use Rattle.linear_laws.proofs.Dot.{zero_below, zero_mul, mul_neg, dot_below, dot_zeros, dot_added, dot_comm}
+use Rattle.linear_laws.specs.Vectors.{dot, column, IsVector, IsMatrix, IsNonzero, IsDependent}
+use Rattle.small_field.specs.Values.{AreElements}
+use Rattle.linear_laws.proofs.Dot.{dot_below, dot_zeros, dot_added, dot_comm}
+use Rattle.small_field.proofs.CallerLemmas.{zero_below, zero_mul, mul_neg}
+use Rattle.linear_laws.proofs.Alls.{insert_all, remove_all}
+use Rattle.linear_laws.proofs.Span.{list_below}
 
 abbrev pub first : List ℕ → ℕ
 first [] = 0
@@ -17,14 +21,9 @@ abbrev pub rest : List ℕ → List ℕ
 rest [] = []
 rest (x ∷ xs) = xs
 
--- an item among others
-pub insert_all : {A : Type 0} (P : A → Type 0) (before after : List A) (x : A) → P x → AllByRecursion P (before ++ after) → AllByRecursion P (before ++ x ∷ after)
-insert_all P [] after x p h = (p, h)
-insert_all P (y ∷ before) after x p h = (h.0, insert_all P before after x p h.1)
-
-pub remove_all : {A : Type 0} (P : A → Type 0) (before after : List A) (x : A) → AllByRecursion P (before ++ x ∷ after) → P x × AllByRecursion P (before ++ after)
-remove_all P [] after x h = h
-remove_all P (y ∷ before) after x h = let t = remove_all P before after x h.1 in (t.0, (h.0, t.1))
+pub length-column : (rows : List (List ℕ)) (j : ℕ) → length (column j rows) ≡ length rows
+length-column [] j = refl
+length-column (r ∷ rows) j = ap suc (length-column rows j)
 
 pub record Pivot (rows : List (List ℕ)) : Type 0 where
   pub before : List (List ℕ)
@@ -165,22 +164,13 @@ module _ (k : Ops) (f : IsField k) where
   columns zero rows = []
   columns (suc n) rows = column n rows ∷ columns n rows
 
-  pub column_long : (j : ℕ) (rows : List (List ℕ)) → length (column j rows) ≡ length rows
-  column_long j [] = refl
-  column_long j (r ∷ rows) = ap suc (column_long j rows)
-
-  pub entry_below : (r : List ℕ) (j : ℕ) → AreElements k r → get_or r j 0 < k.size
-  entry_below [] j h = zero_below k f
-  entry_below (x ∷ xs) zero h = h.0
-  entry_below (x ∷ xs) (suc j) h = entry_below xs j h.1
-
   pub column_below : (n j : ℕ) (rows : List (List ℕ)) → IsMatrix k n rows → AreElements k (column j rows)
   column_below n j [] a = tt
-  column_below n j (r ∷ rows) a = (entry_below r j a.0.elements, column_below n j rows a.1)
+  column_below n j (r ∷ rows) a = (list_below k f r j a.0.elements, column_below n j rows a.1)
 
   pub columns_matrix : (n m : ℕ) (rows : List (List ℕ)) → IsMatrix k n rows → IsMatrix k (length rows) (columns m rows)
   columns_matrix n zero rows a = tt
-  columns_matrix n (suc m) rows a = (record { long = column_long m rows; elements = column_below n m rows a }, columns_matrix n m rows a)
+  columns_matrix n (suc m) rows a = (record { long = length-column rows m; elements = column_below n m rows a }, columns_matrix n m rows a)
 
   pub columns_long : (m : ℕ) (rows : List (List ℕ)) → length (columns m rows) ≡ m
   columns_long zero rows = refl

@@ -1,9 +1,12 @@
 use Rattle.std.proofs.Common.{◌≡◌, ◌≢◌, ℕ, zero, suc, ◌<◌, List, [], ◌∷◌, length, replicate, get_or, set, refl, ap, sym, ◌∙◌, arith, subst, length-set, get_or-set_same, get_or-set_other}
 use Rattle.std.specs.List.{AllByRecursion}
 use Rattle.std.proofs.lemmas.Simd.{length-zip2, length-replicate}
+use Rattle.std.proofs.lemmas.List.{set-set, set-get_or}
 use Rattle.small_field.specs.Field.{Ops, IsField}
-use Rattle.linear_laws.specs.Vectors.{AreElements, IsVector, IsMatrix, plus_scaled, combination, InSpan, SameSpan, entry}
-use Rattle.linear_laws.proofs.Dot.{zero_below, add_zero, mul_zero, zero_mul, mul_neg, add_swap, add_mul}
+use Rattle.linear_laws.specs.Vectors.{IsVector, IsMatrix, plus_scaled, combination, InSpan, SameSpan, entry}
+use Rattle.small_field.specs.Values.{AreElements}
+use Rattle.small_field.proofs.CallerLemmas.{zero_below, add_zero, mul_zero, zero_mul, mul_neg, add_swap, add_mul}
+use Rattle.linear_laws.proofs.Alls.{all_set, all_at}
 
 pub same_span_trans : (k : Ops) (n : ℕ) (a b c : List (List ℕ)) → SameSpan k n a b → SameSpan k n b c → SameSpan k n a c
 same_span_trans k n a b c p q = record { there = λ v h. q.there v (p.there v h); back = λ v h. p.back v (q.back v h) }
@@ -153,21 +156,6 @@ module _ (k : Ops) (f : IsField k) where
   }
 
   -- one row addition
-  pub all_set : {A : Type 0} (P : A → Type 0) (xs : List A) (i : ℕ) (x : A) → P x → AllByRecursion P xs → AllByRecursion P (set xs i x)
-  all_set P [] i x p h = h
-  all_set P (y ∷ ys) zero x p h = (p, h.1)
-  all_set P (y ∷ ys) (suc i) x p h = (h.0, all_set P ys i x p h.1)
-
-  pub all_at : {A : Type 0} (P : A → Type 0) (xs : List A) (i : ℕ) (d : A) → i < length xs → AllByRecursion P xs → P (get_or xs i d)
-  all_at P [] i d lt h = absurd (omega arith)
-  all_at P (y ∷ ys) zero d lt h = h.0
-  all_at P (y ∷ ys) (suc i) d lt h = all_at P ys i d (omega arith) h.1
-
-  pub set_set_same : {A : Type 0} (xs : List A) (i : ℕ) (x d : A) → i < length xs → set (set xs i x) i (get_or xs i d) ≡ xs
-  set_set_same [] i x d lt = absurd (omega arith)
-  set_set_same (y ∷ ys) zero x d lt = refl
-  set_set_same (y ∷ ys) (suc i) x d lt = ap (λ r. y ∷ r) (set_set_same ys i x d (omega arith))
-
   pub addition_keeps_span : (n s i j : ℕ) (rows : List (List ℕ)) → IsMatrix k n rows → i < length rows → j < length rows → i ≢ j → SameSpan k n rows (set rows i (plus_scaled k s (get_or rows i []) (get_or rows j [])))
   addition_keeps_span n s i j rows a li lj ne =
       let x : List ℕ = get_or rows i [] in
@@ -183,7 +171,7 @@ module _ (k : Ops) (f : IsField k) where
       let w_in : InSpan k n (set rows i w) w = subst (InSpan k n (set rows i w)) (get_or-set_same rows i w [] li) (all_at (InSpan k n (set rows i w)) (set rows i w) i [] (omega arith) theirs) in
       let y_in : InSpan k n (set rows i w) y = subst (InSpan k n (set rows i w)) (get_or-set_other rows i j w [] (λ e. ne (sym e))) (all_at (InSpan k n (set rows i w)) (set rows i w) j [] (omega arith) theirs) in
       let x_in : InSpan k n (set rows i w) x = subst (InSpan k n (set rows i w)) (taken_back s x y (vx.long ∙ sym vy.long) vx.elements) (span_plus n (k.neg s) (set rows i w) w y b w_in y_in) in
-      let old : AllByRecursion (InSpan k n (set rows i w)) rows = subst (AllByRecursion (InSpan k n (set rows i w))) (set_set_same rows i w [] li) (all_set (InSpan k n (set rows i w)) (set rows i w) i x x_in theirs) in
+      let old : AllByRecursion (InSpan k n (set rows i w)) rows = subst (AllByRecursion (InSpan k n (set rows i w))) (set-set rows i w (get_or rows i []) ∙ set-get_or rows i []) (all_set (InSpan k n (set rows i w)) (set rows i w) i x x_in theirs) in
       same_span n rows (set rows i w) a b old new
 
   -- entries are elements

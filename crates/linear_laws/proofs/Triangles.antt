@@ -3,10 +3,11 @@ use Rattle.std.specs.List.{AllByRecursion}
 use Rattle.small_field.specs.Field.{Ops, IsField}
 use Rattle.linear_laws.specs.Vectors.{dot, IsVector, IsMatrix, plus_scaled, combination, InSpan, IsIndependent, IsDependent}
 use Rattle.linear_laws.specs.Triangle.{Triangle, TriangleOver}
-use Rattle.linear_laws.proofs.Dot.{zero_below, mul_zero, dot_below, dot_added, dot_zeros, dot_comm}
+use Rattle.linear_laws.proofs.Dot.{dot_below, dot_added, dot_zeros, dot_comm}
+use Rattle.small_field.proofs.CallerLemmas.{zero_below, mul_zero, factor_zero}
 use Rattle.linear_laws.proofs.Solve.{more_are_dependent}
 use Rattle.linear_laws.proofs.Span.{combination-vector, zero_times}
-use Rattle.linear_laws.proofs.Decide.{factor_zero, zeros_of_dots}
+use Rattle.linear_laws.proofs.Decide.{zeros_of_dots}
 use Rattle.linear_laws.proofs.Dimension.{in_span_or_not, no_nonzero}
 
 module _ (k : Ops) (f : IsField k) where

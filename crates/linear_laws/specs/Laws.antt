@@ -1,3 +1,12 @@
+-- The laws of linear algebra over a field with the arithmetic k. (Textbook.)
+--   MoreAreDependent k          more than n vectors of n coordinates are dependent
+--   BasesAreAsLong k            two bases of the same rows have the same length
+--   RowsHaveABasis k            some independent vectors span what the rows span
+--   RankIsDimension k           the rank of a reduced form is the length of each basis of the rows
+--   BasisByRanks k              the ranks of two maps that follow one another, whose composition is zero, give the length of a
+--                               basis modulo coboundaries
+--   TrianglesAreIndependent k   vectors with a triangle of tests are independent
+--   CombinationLaws k           how combinations compute: their coordinates, sums, and combinations of combinations
 use Rattle.std.specs.Prelude.{◌≡◌, ℕ, ◌<◌, List, ◌++◌, length, map, replicate, slice_index}
 use Rattle.std.specs.List.{AllByRecursion}
 use Rattle.small_field.specs.Field.{Ops}
@@ -7,31 +16,24 @@ use Rattle.linear_laws.specs.Triangle.{Triangle}
 use Rattle.linear_laws.specs.Linear.{IsLinear}
 use Rattle.linear_laws.specs.Betti.{HasBasis}
 
--- more than n vectors of n coordinates are dependent
 abbrev pub MoreAreDependent : Ops → Type 0
 MoreAreDependent k = (n : ℕ) (rows : List (List ℕ)) → IsMatrix k n rows → n < length rows → IsDependent k n rows
 
--- two bases of the same rows have the same length
 abbrev pub BasesAreAsLong : Ops → Type 0
 BasesAreAsLong k = (n : ℕ) (rows us vs : List (List ℕ)) → IsBasis k n rows us → IsBasis k n rows vs → length us ≡ length vs
 
--- some independent vectors span what the rows span
 abbrev pub RowsHaveABasis : Ops → Type 0
 RowsHaveABasis k = (n : ℕ) (rows : List (List ℕ)) → IsMatrix k n rows → (basis : List (List ℕ)) × IsBasis k n rows basis
 
--- the rank of a reduced form is the length of each basis of the rows
 abbrev pub RankIsDimension : Ops → Type 0
 RankIsDimension k = (n rank : ℕ) (rows reduced basis : List (List ℕ)) → IsMatrix k n rows → IsReducedTo k n rank n rows reduced → IsBasis k n rows basis → length basis ≡ rank
 
--- the ranks of two maps that follow one another, whose composition is zero, give the length of a basis modulo coboundaries
 abbrev pub BasisByRanks : Ops → Type 0
 BasisByRanks k = (n m rank_last rank_next : ℕ) (last next last_reduced next_reduced : List (List ℕ)) → IsMatrix k n last → IsMatrix k m next → length next ≡ n → AllByRecursion (λ b. combination k m b next ≡ replicate m 0) last → IsReducedTo k n rank_last n last last_reduced → IsReducedTo k m rank_next m next next_reduced → HasBasis k m last next rank_last rank_next
 
--- vectors with a triangle of tests are independent
 abbrev pub TrianglesAreIndependent : Ops → Type 0
 TrianglesAreIndependent k = (n : ℕ) (ds ts : List (List ℕ)) → IsMatrix k n ds → IsMatrix k n ts → Triangle k ds ts → IsIndependent k n ds
 
--- how combinations compute
 pub record CombinationLaws (k : Ops) : Type 0 where
   pub vector : (n : ℕ) (cs : List ℕ) (rows : List (List ℕ)) → IsMatrix k n rows → IsVector k n (combination k n cs rows)
   pub coordinate : (n j : ℕ) (cs : List ℕ) (rows : List (List ℕ)) → IsMatrix k n rows → j < n → slice_index (combination k n cs rows) j ≡ dot k cs (column j rows)

@@ -1,7 +1,7 @@
 -- Alternating sums over a chain with one entry left out.
 use Rattle.std.proofs.Common.{◌≡◌, ℕ, ◌<◌, List, [], ◌∷◌, map, refl, ap, sym}
 use Rattle.small_field.specs.Field.{Ops, IsField}
-use Rattle.small_field.proofs.Laws.{zero_below, add_zero, add_swap, neg_add, neg_zero}
+use Rattle.small_field.proofs.CallerLemmas.{zero_below, add_zero, add_swap, neg_add, neg_zero}
 use Rattle.order_complex.specs.Cochains.{alternating, leave_out}
 
 -- the alternating sum of x over the chain with one entry left out

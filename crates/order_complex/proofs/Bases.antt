@@ -3,12 +3,12 @@ use Rattle.std.proofs.Common.{◌≡◌, ℕ, zero, suc, ◌+◌, ◌<◌, List,
 use Rattle.std.specs.List.{AllByRecursion}
 use Rattle.std.proofs.lemmas.List.{length-map}
 use Rattle.small_field.specs.Field.{Ops, IsField}
-use Rattle.small_field.proofs.Laws.{add_cancel, add_zero, add_swap, neg_mul}
-use Rattle.linear_laws.specs.Vectors.{plus_scaled, combination, IsVector, IsMatrix, AreElements, InSpan, IsInKernel}
+use Rattle.small_field.proofs.CallerLemmas.{add_cancel, add_zero, add_swap, neg_mul}
+use Rattle.linear_laws.specs.Vectors.{plus_scaled, combination, IsVector, IsMatrix, InSpan, IsInKernel}
+use Rattle.small_field.specs.Values.{AreElements}
 use Rattle.linear_laws.specs.Echelon.{IsReducedTo}
 use Rattle.linear_laws.specs.Betti.{IsCohomologyBasis}
-use Rattle.linear_laws.proofs.Span.{combination-vector, combination-plus, span_plus, plus_scaled-vector}
-use Rattle.linear_laws.proofs.Betti.{basis_by_ranks}
+use Rattle.linear_laws.proofs.CallerLemmas.{combination-vector, combination-plus, span_plus, plus_scaled-vector, basis_by_ranks}
 use Rattle.order_complex.specs.Chains.{chains_of}
 use Rattle.order_complex.specs.Cochains.{coboundary, coboundary_on, mark}
 use Rattle.order_complex.specs.Homology.{IsCocycle, IsCoboundary, IsClass, IsBasis, IsBetti}

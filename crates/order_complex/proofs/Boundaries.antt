@@ -4,11 +4,10 @@ use Rattle.std.specs.Str.{bytes_eq}
 use Rattle.std.proofs.lemmas.List.{length-map, get_or-map, get_or_default, same_lists}
 use Rattle.std.proofs.lemmas.Simd.{length-replicate, get_or-replicate, get_or-zip2}
 use Rattle.small_field.specs.Field.{Ops, IsField}
-use Rattle.small_field.proofs.Laws.{zero_below, neg_mul}
-use Rattle.linear_laws.specs.Vectors.{dot, plus_scaled, IsVector, AreElements}
-use Rattle.linear_laws.proofs.Span.{plus_scaled-long}
-use Rattle.linear_laws.proofs.Adjoint.{zeros_dot}
-use Rattle.linear_laws.proofs.Betti.{dot_unit}
+use Rattle.small_field.proofs.CallerLemmas.{zero_below, neg_mul}
+use Rattle.linear_laws.specs.Vectors.{dot, plus_scaled, IsVector}
+use Rattle.small_field.specs.Values.{AreElements}
+use Rattle.linear_laws.proofs.CallerLemmas.{plus_scaled-long, zeros_dot, dot_unit}
 use Rattle.order_complex.specs.Chains.{chains_of}
 use Rattle.order_complex.specs.Cochains.{alternating, alternating_rows, leave_out, value, mark, coboundary_at, coboundary_on, boundary_on, boundary, zeros, IsCochain}
 use Rattle.order_complex.proofs.Members.{Member}

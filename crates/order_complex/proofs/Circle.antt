@@ -5,7 +5,7 @@ use Rattle.small_field.specs.ModField.{mod_field}
 use Rattle.small_field.specs.Prime.{mod_ops}
 use Rattle.linear_laws.specs.Echelon.{IsReducedBelow, IsReducedTo}
 use Rattle.linear_laws.specs.Vectors.{InSpan, IsMatrix, IsVector, entry}
-use Rattle.linear_laws.proofs.Betti.{in_span_trans}
+use Rattle.linear_laws.proofs.CallerLemmas.{in_span_trans}
 use Rattle.order_complex.specs.Homology.{IsBetti}
 use Rattle.order_complex.specs.Ranks.{rows_of}
 use Rattle.order_complex.proofs.Bases.{betti_by_ranks}

@@ -2,13 +2,9 @@
 use Rattle.std.proofs.Common.{◌≡◌, ℕ, zero, suc, ◌<◌, ◌≤◌, List, [], ◌∷◌, length, replicate, refl, ap, sym, ◌∙◌, subst, arith}
 use Rattle.std.specs.List.{AllByRecursion}
 use Rattle.small_field.specs.Field.{Ops, IsField}
-use Rattle.small_field.proofs.Laws.{add_swap}
+use Rattle.small_field.proofs.CallerLemmas.{add_swap}
 use Rattle.linear_laws.specs.Vectors.{plus_scaled, combination, IsVector, IsMatrix}
-use Rattle.linear_laws.proofs.Span.{plus_scaled-vector, one_times, combination-vector, combination-plus, combination-zeros, zeros_plus, zeros-elements}
-use Rattle.linear_laws.proofs.Solve.{more_are_dependent}
-use Rattle.linear_laws.proofs.Decide.{zeros_of_dots}
-use Rattle.linear_laws.proofs.Dimension.{no_nonzero}
-use Rattle.linear_laws.proofs.Betti.{plus_zeros}
+use Rattle.linear_laws.proofs.CallerLemmas.{plus_scaled-vector, one_times, combination-vector, combination-plus, combination-zeros, zeros_plus, zeros-elements, more_are_dependent, zeros_of_dots, no_nonzero, plus_zeros}
 use Rattle.std.proofs.lemmas.List.{length-replicate}
 use native.Mathlib.Decide.{dec_lt}
 use Prim.{yes, no}

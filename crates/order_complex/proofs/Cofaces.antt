@@ -6,8 +6,9 @@ use Rattle.std.specs.List.{AllByRecursion, range_with_len}
 use Rattle.std.proofs.lemmas.Bool.{eqb-true, ne_eqb}
 use Rattle.std.proofs.lemmas.List.{length-map, get_or-map, take_more}
 use Rattle.small_field.specs.Field.{Ops, IsField}
-use Rattle.small_field.proofs.Laws.{zero_below, add_zero, zero_mul, neg_mul, neg_zero, neg_neg}
-use Rattle.linear_laws.specs.Vectors.{dot, AreElements}
+use Rattle.small_field.proofs.CallerLemmas.{zero_below, add_zero, zero_mul, neg_mul, neg_zero, neg_neg}
+use Rattle.linear_laws.specs.Vectors.{dot}
+use Rattle.small_field.specs.Values.{AreElements}
 use Rattle.face_poset.specs.Words.{upto, holds}
 use Rattle.face_poset.specs.Poset.{layer, count, facets_of, cofaces_of}
 use Rattle.number_lists.specs.Cofaces.{cells_with}

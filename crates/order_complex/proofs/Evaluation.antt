@@ -3,13 +3,10 @@ use Rattle.std.proofs.Common.{◌≡◌, ◌≢◌, ℕ, ◌<◌, List, [], ◌�
 use Rattle.std.specs.Str.{bytes_eq}
 use Rattle.std.proofs.lemmas.List.{length-map, get_or-map, get_or_default, same_lists}
 use Rattle.small_field.specs.Field.{Ops, IsField}
-use Rattle.small_field.proofs.Laws.{zero_below}
-use Rattle.linear_laws.specs.Vectors.{dot, column, combination, IsVector, IsMatrix, AreElements}
-use Rattle.linear_laws.proofs.Span.{combination-vector}
-use Rattle.linear_laws.proofs.Decide.{entry_combination}
-use Rattle.linear_laws.proofs.Betti.{dot_unit}
-use Rattle.linear_laws.proofs.Linear.{functional_of_combination}
-use Rattle.linear_laws.proofs.Adjoint.{adjoint}
+use Rattle.small_field.proofs.CallerLemmas.{zero_below}
+use Rattle.linear_laws.specs.Vectors.{dot, column, combination, IsVector, IsMatrix}
+use Rattle.small_field.specs.Values.{AreElements}
+use Rattle.linear_laws.proofs.CallerLemmas.{combination-vector, entry_combination, dot_unit, functional_of_combination, adjoint}
 use Rattle.order_complex.specs.Cochains.{mark, coboundary_at, coboundary_on, boundary_on, evaluation}
 use Rattle.order_complex.specs.Order.{IsOrdered}
 use Rattle.order_complex.specs.Ranks.{rows_on}

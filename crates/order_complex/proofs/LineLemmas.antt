@@ -7,9 +7,10 @@ use Rattle.std.proofs.lemmas.Bool.{eqb-true, ne_eqb}
 use Rattle.std.proofs.lemmas.List.{length-map}
 use Rattle.std.proofs.lemmas.List.Elements.{All-head, All-tail}
 use Rattle.small_field.specs.Field.{Ops, IsField}
-use Rattle.small_field.proofs.Laws.{zero_below}
+use Rattle.small_field.proofs.CallerLemmas.{zero_below}
 use Rattle.linear_laws.specs.Marks.{mark}
-use Rattle.linear_laws.specs.Vectors.{combination, plus_scaled, IsVector, AreElements}
+use Rattle.linear_laws.specs.Vectors.{combination, plus_scaled, IsVector}
+use Rattle.small_field.specs.Values.{AreElements, entries_from, entry_of}
 use Rattle.face_poset.specs.Words.{upto}
 use Rattle.number_lists.proofs.CallerLemmas.{length-upto}
 use Rattle.order_complex.specs.Chains.{chains_of}
@@ -19,7 +20,6 @@ use Rattle.order_complex.specs.Cup.{cup_at}
 use Rattle.order_complex.specs.Homology.{IsClass}
 use Rattle.order_complex.specs.Lines.{element_at, cochain_of, AreEntries, all_zero, cochain_in, value_on, rank_holds}
 use Rattle.order_complex.specs.LineLaws.{EntriesAreCochains, ClassLinesAreCocycles, ProductLinesAreProducts, TestsAreEquations}
-use Rattle.order_complex.specs.Values.{entries_from, entry_of}
 use Rattle.order_complex.proofs.Members.{range-member}
 use Rattle.order_complex.proofs.Twice.{bytes_eq-true, map-members}
 

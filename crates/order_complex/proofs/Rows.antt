@@ -2,8 +2,9 @@
 use Rattle.std.proofs.Common.{◌≡◌, ℕ, zero, suc, ◌<◌, List, [], ◌∷◌, Bool, true, false, cond, map, length, replicate, refl, ap, sym, ◌∙◌, arith}
 use Rattle.std.specs.Str.{bytes_eq}
 use Rattle.small_field.specs.Field.{Ops, IsField}
-use Rattle.small_field.proofs.Laws.{zero_below, add_swap, neg_add, neg_zero, mul_zero, mul_neg}
-use Rattle.linear_laws.specs.Vectors.{plus_scaled, AreElements}
+use Rattle.small_field.proofs.CallerLemmas.{zero_below, add_swap, neg_add, neg_zero, mul_zero, mul_neg}
+use Rattle.linear_laws.specs.Vectors.{plus_scaled}
+use Rattle.small_field.specs.Values.{AreElements}
 use Rattle.linear_laws.specs.Linear.{IsLinear}
 use Rattle.order_complex.specs.Cochains.{alternating, leave_out, value, coboundary_at}
 

@@ -5,7 +5,6 @@ pub mod Cup
 pub mod Order
 pub mod Complex
 pub mod Listing
-pub mod Values
 pub mod Sequences
 pub mod Ranks
 pub mod Laws

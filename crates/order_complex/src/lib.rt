@@ -2,7 +2,6 @@
 #![tactic(auto)]
 
 mod chains;
-mod cochain;
 mod faces;
 mod facets;
 mod fault;
@@ -14,7 +13,6 @@ mod uppers;
 mod values;
 
 pub use chains::Chains;
-pub use cochain::Cochain;
 pub use fault::ChainFault;
 pub use laws::{
     betti_by_ranks, betti_is_one_number, boundaries_are_cycles, boundary_alternates,

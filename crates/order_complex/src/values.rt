@@ -7,9 +7,8 @@ ghost use Rattle.order_complex.specs.Complex.{complex_of, negative_in};
 ghost use Rattle.order_complex.specs.Cup.{cup_at as cup_value};
 
 use crate::chains::Chains;
-use crate::cochain::Cochain;
 use face_poset::{Graded, Signed};
-use small_field::Field;
+use small_field::{Cochain, Field};
 
 impl<'a> Chains<'a> {
     /// The value of the coboundary of a cochain of a degree on a chain of one degree more, which is numbered from 1.

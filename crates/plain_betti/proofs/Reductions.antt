@@ -4,7 +4,7 @@ use Rattle.std.proofs.Math.Nat.{mul-le-mul_left}
 use Rattle.std.proofs.lemmas.List.{length-map}
 use Rattle.small_field.specs.Field.{Ops}
 use Rattle.linear_laws.specs.Echelon.{IsReduced, IsReducedTo}
-use Rattle.field_matrix.proofs.Ranks.{few_pivots}
+use Rattle.field_matrix.proofs.CallerLemmas.{few_pivots}
 use Rattle.order_complex.specs.Cochains.{coboundary_on, mark}
 use Rattle.order_complex.specs.Ranks.{rows_on}
 use Rattle.plain_betti.specs.Ranks.{IsRank}

@@ -1,5 +1,5 @@
 -- The Betti numbers of a space in the degrees from 0 to 3.
-use Rattle.std.specs.Prelude.{ℕ, ◌+◌, ◌*◌, ◌==◌, ◌||◌, Bool, List, length}
+use Rattle.std.specs.Prelude.{ℕ, ◌+◌, ◌*◌, List, length}
 use Rattle.small_field.specs.Field.{Ops}
 use Rattle.order_complex.specs.Chains.{chains_of}
 use Rattle.order_complex.specs.Homology.{IsBetti}
@@ -11,10 +11,6 @@ pub record AreBetti (F : Ops) (space : List (List (List ℕ))) (numbers : Betti)
   pub one : IsBetti F space 1 numbers.one
   pub two : IsBetti F space 2 numbers.two
   pub three : IsBetti F space 3 numbers.three
-
--- the moduli for which there is a field
-abbrev pub is_modulus : ℕ → Bool
-is_modulus n = (n == 2) || ((n == 3) || ((n == 5) || (n == 7)))
 
 -- rows times columns of the three coboundaries, summed: a row for each chain of a degree, a column for each of the next
 abbrev pub coboundary_entries : List (List (List ℕ)) → ℕ

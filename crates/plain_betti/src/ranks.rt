@@ -6,8 +6,8 @@ ghost use Rattle.order_complex.specs.Ranks.{rows_on};
 ghost use Rattle.plain_betti.specs.Ranks.{IsRank};
 
 use field_matrix::Matrix;
-use order_complex::{Chains, Cochain, chains_are_ordered};
-use small_field::Field;
+use order_complex::{Chains, chains_are_ordered};
+use small_field::{Cochain, Field};
 use std::alloc::{AllocError, Global};
 use std::sync::ledger::Ledger;
 use step_count::Steps;

@@ -3,7 +3,7 @@ use Rattle.std.proofs.Common.{◌≡◌, ℕ, ◌+◌, ◌*◌, ◌≤◌, List,
 use Rattle.std.proofs.Math.Nat.{mul-le-mul_left, mul-le-mul}
 use Rattle.small_field.specs.Field.{Ops}
 use Rattle.linear_laws.specs.Echelon.{IsReduced, IsReducedTo}
-use Rattle.field_matrix.proofs.Ranks.{few_pivots}
+use Rattle.field_matrix.proofs.CallerLemmas.{few_pivots}
 use Rattle.split_laws.specs.declared.kind.Kind.{Kind}
 use Rattle.split_laws.specs.Kinds.{criticals}
 use Rattle.split_laws.specs.Solutions.{IsReducedBy}

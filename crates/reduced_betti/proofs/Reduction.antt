@@ -8,7 +8,7 @@ use Rattle.linear_laws.specs.Vectors.{combination, entry, IsMatrix}
 use Rattle.linear_laws.specs.Echelon.{IsReducedTo}
 use Rattle.linear_laws.specs.Betti.{IsCohomologyBasis}
 use Rattle.linear_laws.specs.Laws.{BasisByRanks}
-use Rattle.linear_laws.proofs.Span.{zeros-elements}
+use Rattle.linear_laws.proofs.CallerLemmas.{zeros-elements}
 use Rattle.order_complex.specs.Chains.{chains_of}
 use Rattle.order_complex.specs.Complex.{complex_of, negative_in}
 use Rattle.order_complex.specs.Homology.{IsBetti}

@@ -3,7 +3,8 @@ ghost use Rattle.std.specs.Prelude.{◌≡◌, ◌≤◌, ◌<◌, ◌+◌, IsTr
 ghost use Rattle.small_field.specs.Prime.{mod_ops};
 ghost use Rattle.order_complex.specs.Chains.{chain_count};
 ghost use Rattle.order_complex.specs.Complex.{IsRefused};
-ghost use Rattle.plain_betti.specs.Numbers.{AreBetti, coboundary_entries, is_modulus};
+ghost use Rattle.plain_betti.specs.Numbers.{AreBetti, coboundary_entries};
+ghost use Rattle.small_field.specs.Modulus.{is_modulus};
 
 use crate::ranks::{critical_count, reduced_ranks};
 use critical_complex::Reduced;

@@ -1,2 +1,3 @@
-pub mod Laws
+pub mod CallerLemmas
+mod Laws
 mod Pushed

@@ -1,14 +1,16 @@
+-- Sums over lists, and what follows from the laws of a field with the arithmetic k.
+--   total k xs      the sum of the elements xs
+--   FurtherLaws k   zero, negatives, cancellation, no zero divisors; sums of lists that are joined, put in another order,
+--                   added place by place, or multiplied
 use Rattle.std.specs.Prelude.{◌≡◌, ◌≢◌, ℕ, ◌<◌, List, [], ◌∷◌, ◌++◌, length, map}
 use Rattle.std.specs.List.Sorted.{IsPermutation}
 use Rattle.lane_rows.specs.Lanes.{zip2}
 use Rattle.small_field.specs.Field.{Ops}
 
--- the sum of a list of elements
 abbrev pub total : Ops → List ℕ → ℕ
 total k [] = 0
 total k (x ∷ xs) = k.add x (total k xs)
 
--- what follows from the laws of a field
 pub record FurtherLaws (k : Ops) : Type 0 where
   pub mul_zero : (x : ℕ) → k.mul x 0 ≡ 0
   pub neg_zero : k.neg 0 ≡ 0

@@ -1,4 +1,7 @@
--- The laws of a field hold for arithmetic modulo p. This is a law with its proof, beside the definitions since a law of an impl may cite a file of specs alone.
+-- The laws of a field hold for arithmetic modulo p. This is a law with its proof, beside the definitions since a law of an
+-- impl may cite a file of specs alone.
+--   inverts p n   each number below n is 0 or has its inverse modulo p in the list
+--   mod_field p   where that is so below p, arithmetic modulo p has the laws of a field
 use Rattle.std.proofs.Common.{◌≡◌, ◌≢◌, ℕ, zero, suc, ◌+◌, ◌*◌, ◌-◌, ◌/◌, ◌<◌, ◌%◌, Bool, true, ◌||◌, ◌&&◌, ◌==◌, arith, ap, sym, ◌∙◌}
 use Rattle.std.specs.Prelude.{slice_index}
 use Rattle.std.proofs.Math.Nat.{mod-add-mod, add-mod-mod, mod-add-div, add-mul-mod_self_left, mod-eq_of_lt, mod_self}
@@ -9,7 +12,6 @@ use Rattle.std.proofs.lemmas.Bool.Decides.{nat_tests}
 use Rattle.small_field.specs.Field.{IsField}
 use Rattle.small_field.specs.Prime.{inverses, inverse_mod, mod_ops}
 
--- each number below n is 0 or has an inverse modulo p
 abbrev pub inverts : ℕ → ℕ → Bool
 inverts p zero = true
 inverts p (suc n) = (n == 0 || (n * inverse_mod p n) % p == 1) && inverts p n

@@ -2,12 +2,12 @@
 use Rattle.std.proofs.Common.{◌≡◌, ℕ, zero, suc, ◌+◌, List, [], ◌∷◌, length, replicate, refl, ap, sym, ◌∙◌, arith, subst}
 use Rattle.std.specs.List.{AllByRecursion}
 use Rattle.small_field.specs.Field.{Ops, IsField}
-use Rattle.linear_laws.specs.Vectors.{AreElements, IsVector, IsMatrix, combination, plus_scaled, InSpan, IsInKernel}
+use Rattle.linear_laws.specs.Vectors.{IsVector, IsMatrix, combination, plus_scaled, InSpan, IsInKernel}
+use Rattle.small_field.specs.Values.{AreElements}
 use Rattle.linear_laws.specs.Echelon.{IsReducedTo}
 use Rattle.linear_laws.specs.Betti.{IsCohomologyBasis}
-use Rattle.linear_laws.proofs.Betti.{basis_by_ranks, regroup}
-use Rattle.linear_laws.proofs.Decide.{neg_neg}
-use Rattle.linear_laws.proofs.Span.{taken_back, combination-vector, combination-plus, plus_scaled-vector}
+use Rattle.linear_laws.proofs.CallerLemmas.{basis_by_ranks, regroup, taken_back, combination-vector, combination-plus, plus_scaled-vector}
+use Rattle.small_field.proofs.CallerLemmas.{neg_neg}
 use Rattle.split_laws.specs.Kinds.{Kind, Critical, Lower, Upper, criticals, part, ZeroOnUppers, HasNoUpper}
 use Rattle.split_laws.specs.Solutions.{IsExtension, AreExtensions, without}
 use Rattle.split_laws.specs.Complex.{IsSplitComplex, AreReduced}

@@ -3,9 +3,9 @@ use Rattle.std.proofs.Common.{◌≡◌, ℕ, zero, suc, ◌<◌, ◌⊎◌, inl
 use Rattle.std.specs.List.{AllByRecursion}
 use Rattle.std.proofs.lemmas.Simd.{length-replicate, get_or-replicate}
 use Rattle.small_field.specs.Field.{Ops, IsField}
-use Rattle.linear_laws.specs.Vectors.{dot, boundary, column, row_at, AreElements, IsVector, combination}
-use Rattle.linear_laws.proofs.Span.{zeros-elements, combination-vector}
-use Rattle.linear_laws.proofs.Decide.{entry_combination}
+use Rattle.linear_laws.specs.Vectors.{dot, boundary, column, row_at, IsVector, combination}
+use Rattle.small_field.specs.Values.{AreElements}
+use Rattle.linear_laws.proofs.CallerLemmas.{zeros-elements, combination-vector, entry_combination, all_set}
 use Rattle.split_laws.specs.Kinds.{Kind, Critical, Lower, Upper, part, ZeroOnUppers, ZeroOnLowers, ZeroOffLowers, ZeroOffUppers, AgreeOnLowers, AgreeOnUppers}
 use Rattle.split_laws.specs.Solutions.{IsExtension, IsFlow, IsCleared, without}
 use Rattle.split_laws.proofs.Parts.{agreed}
@@ -84,11 +84,6 @@ at_lower P [] j h g = absurd g
 at_lower P (p ∷ ps) j h (inl e) = subst P e h.0
 at_lower P (p ∷ ps) j h (inr g) = at_lower P ps j h.1 g
 
-set_below : (k : Ops) (xs : List ℕ) (i v : ℕ) → v < k.size → AreElements k xs → AreElements k (set xs i v)
-set_below k [] i v l h = h
-set_below k (x ∷ xs) zero v l h = (l, h.1)
-set_below k (x ∷ xs) (suc i) v l h = (h.0, set_below k xs i v l h.1)
-
 -- ---- where two lists agree but on lowers, or but on uppers
 
 part_agrees : (ts : List Kind) (x y : List ℕ) → length x ≡ length ts → length y ≡ length ts → ((i : ℕ) → i < length ts → (get_or x i 0 ≡ get_or y i 0) ⊎ (kind_at ts i ≡ Lower)) → part ts x ≡ part ts y
@@ -151,13 +146,13 @@ module _ (k : Ops) (f : IsField k) (n m : ℕ) (rows : List (List ℕ)) (ts us :
   settle_below t [] y h = h
   settle_below t (p ∷ qs) y h =
       let v : ℕ = k.add (get_or y p.lower 0) (correction k rows t p y) in
-      settle_below t qs (set y p.lower v) (set_below k y p.lower v (f.add_below (get_or y p.lower 0) (correction k rows t p y)) h)
+      settle_below t qs (set y p.lower v) (all_set (λ x. x < k.size) y p.lower v (f.add_below (get_or y p.lower 0) (correction k rows t p y)) h)
 
   carry_below : (t : List ℕ) (qs : List Match) (z : List ℕ) → AreElements k z → AreElements k (carry k rows t qs z)
   carry_below t [] z h = h
   carry_below t (p ∷ qs) z h =
       let r : List ℕ = carry k rows t qs z in
-      set_below k r p.upper (k.add (get_or r p.upper 0) (back_correction k rows t p r)) (f.add_below (get_or r p.upper 0) (back_correction k rows t p r)) (carry_below t qs z h)
+      all_set (λ x. x < k.size) r p.upper (k.add (get_or r p.upper 0) (back_correction k rows t p r)) (f.add_below (get_or r p.upper 0) (back_correction k rows t p r)) (carry_below t qs z h)
 
   pub settled-vector : (t y : List ℕ) → IsVector k n y → IsVector k n (settle k rows t ps y)
   settled-vector t y v = record { long = settle_long k f m rows M.matrix t ps y ∙ v.long; elements = settle_below t ps y v.elements }

@@ -1,8 +1,9 @@
-pub mod Parts
-pub mod Solved
-pub mod Only
-pub mod Settle
-pub mod Fields
-pub mod Linear
-pub mod Steps
-pub mod Bases
+pub mod CallerLemmas
+mod Parts
+mod Solved
+mod Only
+mod Settle
+mod Fields
+mod Linear
+mod Steps
+mod Bases

@@ -1,13 +1,11 @@
 -- Extensions are linear, and the reduced rows are their coboundaries.
 use Rattle.std.proofs.Common.{◌≡◌, ℕ, zero, suc, ◌<◌, List, [], ◌∷◌, length, map, replicate, refl, ap, sym, ◌∙◌, arith, subst}
 use Rattle.std.proofs.lemmas.Simd.{length-replicate}
-use Rattle.std.proofs.lemmas.List.{length-map}
+use Rattle.std.proofs.lemmas.List.{length-map, get_or-map, ext_get_or}
 use Rattle.small_field.specs.Field.{Ops, IsField}
 use Rattle.linear_laws.specs.Marks.{mark, identity}
 use Rattle.linear_laws.specs.Vectors.{IsVector, IsMatrix, combination, plus_scaled, row_at}
-use Rattle.linear_laws.proofs.Marks.{length-identity, identity_row, identity_matrix, combination-identity}
-use Rattle.linear_laws.proofs.Span.{zeros-elements, combination-vector, combination-plus, combination-zeros, plus_scaled-vector}
-use Rattle.linear_laws.proofs.Halves.{row_at-map}
+use Rattle.linear_laws.proofs.CallerLemmas.{length-identity, identity_row, identity_matrix, combination-identity, zeros-elements, combination-vector, combination-plus, combination-zeros, plus_scaled-vector}
 use Rattle.split_laws.specs.Kinds.{Kind, criticals, part, ZeroOnUppers}
 use Rattle.split_laws.specs.Split.{IsSplit}
 use Rattle.split_laws.specs.Solutions.{IsExtension, AreExtensions, IsReducedBy}
@@ -15,14 +13,6 @@ use Rattle.split_laws.proofs.Parts.{part-zeros, none-zeros, part-plus, part-comb
 use Rattle.split_laws.proofs.Solved.{extension, extension_is_one}
 
 -- ---- lists of rows
-
-pub same_rows : (xs ys : List (List ℕ)) → length xs ≡ length ys → ((i : ℕ) → i < length xs → row_at xs i ≡ row_at ys i) → xs ≡ ys
-same_rows [] [] l h = refl
-same_rows [] (y ∷ ys) l h = absurd (omega (arith, l))
-same_rows (x ∷ xs) [] l h = absurd (omega (arith, l))
-same_rows (x ∷ xs) (y ∷ ys) l h =
-    let here : x ≡ y = h 0 (omega arith) in
-    ap (λ (z : List ℕ). z ∷ xs) here ∙ ap (λ (zs : List (List ℕ)). y ∷ zs) (same_rows xs ys (omega (arith, l)) (λ i lt. h (suc i) (omega arith)))
 
 module _ (k : Ops) (f : IsField k) where
   pub zeros-vector : (n : ℕ) → IsVector k n (replicate n 0)
@@ -120,10 +110,10 @@ module _ (k : Ops) (f : IsField k) where
       rows_are =
           let g : List ℕ → List ℕ = λ x. part us (combination k m x rows) in
           let long : length (map g marks.0) ≡ criticals ts = length-map marks.0 g ∙ marks_long in
-          same_rows (map g marks.0) reduced (long ∙ sym r.long)
+          ext_get_or [] (map g marks.0) reduced (long ∙ sym r.long)
           (λ i lt.
           let li : i < criticals ts = subst (λ (x : ℕ). i < x) long lt in
-          row_at-map g marks.0 i (subst (λ (x : ℕ). i < x) (sym marks_long) li) ∙ sym (row_is i li))
+          get_or-map g marks.0 i [] [] (subst (λ (x : ℕ). i < x) (sym marks_long) li) ∙ sym (row_is i li))
 
       coboundaries_matrix : (xs : List (List ℕ)) → IsMatrix k m (map (λ x. combination k m x rows) xs)
       coboundaries_matrix [] = tt

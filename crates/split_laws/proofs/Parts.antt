@@ -1,11 +1,10 @@
 -- Values on critical cells, on lowers and on uppers.
 use Rattle.std.proofs.Common.{◌≡◌, ℕ, zero, suc, ◌<◌, List, [], ◌∷◌, length, map, replicate, refl, ap, sym, ◌∙◌, arith}
 use Rattle.small_field.specs.Field.{Ops, IsField}
-use Rattle.linear_laws.specs.Vectors.{dot, AreElements, IsVector, IsMatrix, combination, plus_scaled}
-use Rattle.linear_laws.proofs.Dot.{zero_below, add_zero, mul_zero, mul_neg, dot_below}
-use Rattle.linear_laws.proofs.Decide.{neg_neg, neg_of_sum}
-use Rattle.linear_laws.proofs.Adjoint.{skip_left, skip_right}
-use Rattle.linear_laws.proofs.Span.{combination-vector}
+use Rattle.linear_laws.specs.Vectors.{dot, IsVector, IsMatrix, combination, plus_scaled}
+use Rattle.small_field.specs.Values.{AreElements}
+use Rattle.linear_laws.proofs.CallerLemmas.{dot_below, skip_left, skip_right, combination-vector}
+use Rattle.small_field.proofs.CallerLemmas.{zero_below, add_zero, mul_zero, mul_neg, neg_neg, neg_unique}
 use Rattle.split_laws.specs.Kinds.{Kind, Critical, Lower, Upper, criticals, part, spread, ZeroOnUppers, ZeroOnLowers, ZeroOffLowers, ZeroOffUppers, AgreeOnLowers, AgreeOnUppers}
 
 abbrev pub first_of : List ℕ → ℕ
@@ -120,7 +119,7 @@ module _ (k : Ops) (f : IsField k) where
   pub equal : (a b : ℕ) → a < k.size → b < k.size → k.add a (k.mul (k.neg 1) b) ≡ 0 → a ≡ b
   equal a b la lb e =
       let zero_sum : k.add a (k.neg b) ≡ 0 = ap (k.add a) (sym (neg_one b lb)) ∙ e in
-      let n : k.neg b ≡ k.neg a = neg_of_sum k f a (k.neg b) (f.neg_below b) zero_sum in
+      let n : k.neg b ≡ k.neg a = neg_unique k f a (k.neg b) (f.neg_below b) zero_sum in
       sym (neg_neg k f a la) ∙ (ap k.neg (sym n) ∙ neg_neg k f b lb)
 
   pub same : (n : ℕ) (x y : List ℕ) → IsVector k n x → IsVector k n y → plus_scaled k (k.neg 1) x y ≡ replicate n 0 → x ≡ y

@@ -2,11 +2,10 @@
 use Rattle.std.proofs.Common.{◌≡◌, ◌≢◌, ℕ, ◌<◌, List, [], ◌∷◌, length, length-set, get_or, set, get_or-set_other, refl, ap, sym, ◌∙◌, arith, subst}
 use Rattle.std.specs.List.{AllByRecursion}
 use Rattle.small_field.specs.Field.{Ops, IsField}
-use Rattle.linear_laws.specs.Vectors.{dot, column, entry, row_at, bump, AreElements, IsVector, IsMatrix}
-use Rattle.linear_laws.proofs.Dot.{add_zero, mul_zero, dot_below, dot_comm}
-use Rattle.linear_laws.proofs.Bump.{dot_bumped, column_entry}
-use Rattle.linear_laws.proofs.Solve.{column_long, entry_below}
-use Rattle.linear_laws.proofs.Span.{all_at}
+use Rattle.linear_laws.specs.Vectors.{dot, column, entry, row_at, bump, IsVector, IsMatrix}
+use Rattle.small_field.specs.Values.{AreElements}
+use Rattle.linear_laws.proofs.CallerLemmas.{dot_below, dot_comm, dot_bumped, column_entry, all_at, length-column, list_below}
+use Rattle.small_field.proofs.CallerLemmas.{add_zero, mul_zero}
 use Rattle.split_laws.specs.Pairs.{Match, Triangular, correction, settle, back_correction, carry}
 
 module _ (k : Ops) (f : IsField k) where
@@ -20,7 +19,7 @@ module _ (k : Ops) (f : IsField k) where
 
   module _ (m : ℕ) (rows : List (List ℕ)) (a : IsMatrix k m rows) (t : List ℕ) where
     entry_small : (i j : ℕ) → i < length rows → entry rows i j < k.size
-    entry_small i j lt = entry_below k f (row_at rows i) j (all_at k f (IsVector k m) rows i [] lt a).elements
+    entry_small i j lt = list_below k f (row_at rows i) j (all_at (IsVector k m) rows i [] lt a).elements
 
     -- ---- forward
 
@@ -39,7 +38,7 @@ module _ (k : Ops) (f : IsField k) where
         let l1 : length y1 ≡ length rows = length-set y p.lower (k.add (get_or y p.lower 0) c) ∙ l in
         let lt : p.lower < length rows = tr.0 in
         settle_keeps ps y1 j l1 tr.3 h.1
-        ∙ (dot_bumped k f y (column j rows) p.lower c (omega arith) (column_long k f j rows ∙ sym l)
+        ∙ (dot_bumped k f y (column j rows) p.lower c (omega arith) (length-column rows j ∙ sym l)
         ∙ (ap (λ (n : ℕ). k.add (dot k y (column j rows)) (k.mul c n)) (column_entry rows j p.lower tr.0 ∙ h.0)
         ∙ (ap (k.add (dot k y (column j rows))) (mul_zero k f c) ∙ add_zero k f (dot k y (column j rows)) (dot_below k f y (column j rows)))))
 
@@ -53,9 +52,9 @@ module _ (k : Ops) (f : IsField k) where
         let lt : p.lower < length rows = tr.0 in
         let col : List ℕ = column p.upper rows in (
           settle_keeps ps y1 p.upper l1 tr.3 tr.2
-              ∙ (dot_bumped k f y col p.lower c (omega arith) (column_long k f p.upper rows ∙ sym l)
+              ∙ (dot_bumped k f y col p.lower c (omega arith) (length-column rows p.upper ∙ sym l)
               ∙ (ap (λ (n : ℕ). k.add (dot k y col) (k.mul c n)) (column_entry rows p.upper p.lower tr.0)
-              ∙ corrected (dot k y col) (get_or t p.upper 0) (entry rows p.lower p.upper) (dot_below k f y col) (entry_below k f t p.upper el) (entry_small p.lower p.upper tr.0) tr.1)),
+              ∙ corrected (dot k y col) (get_or t p.upper 0) (entry rows p.lower p.upper) (dot_below k f y col) (list_below k f t p.upper el) (entry_small p.lower p.upper tr.0) tr.1)),
           settle_meets ps y1 l1 el tr.3,
         )
 
@@ -77,7 +76,7 @@ module _ (k : Ops) (f : IsField k) where
     -- a row on a vector with something added at one place
     bumped_row : (i j c : ℕ) (z : List ℕ) → length z ≡ m → i < length rows → j < m → dot k (row_at rows i) (bump k z j c) ≡ k.add (dot k (row_at rows i) z) (k.mul c (entry rows i j))
     bumped_row i j c z l li lj =
-        let v : IsVector k m (row_at rows i) = all_at k f (IsVector k m) rows i [] li a in
+        let v : IsVector k m (row_at rows i) = all_at (IsVector k m) rows i [] li a in
         dot_comm k f (row_at rows i) (bump k z j c)
         ∙ (dot_bumped k f z (row_at rows i) j c (subst (λ (x : ℕ). j < x) (sym l) lj) (v.long ∙ sym l) ∙ ap (λ (n : ℕ). k.add n (k.mul c (entry rows i j))) (dot_comm k f z (row_at rows i)))
 
@@ -99,7 +98,7 @@ module _ (k : Ops) (f : IsField k) where
         let lr : length r ≡ m = carry_long ps z ∙ l in
         let d : ℕ = dot k (row_at rows p.lower) r in (
           bumped_row p.lower p.upper (back_correction k rows t p r) r lr tr.0 lu.0
-              ∙ corrected d (get_or t p.lower 0) (entry rows p.lower p.upper) (dot_below k f (row_at rows p.lower) r) (entry_below k f t p.lower el) (entry_small p.lower p.upper tr.0) tr.1,
+              ∙ corrected d (get_or t p.lower 0) (entry rows p.lower p.upper) (dot_below k f (row_at rows p.lower) r) (list_below k f t p.lower el) (entry_small p.lower p.upper tr.0) tr.1,
           undisturbed p ps r (back_correction k rows t p r) lr lu.0 tr.3 tr.2 (carry_meets ps z l el lu.1 tr.3),
         )
 

@@ -1,10 +1,9 @@
 -- From a split: exactly one extension, one flow and one clearing.
 use Rattle.std.proofs.Common.{◌≡◌, ℕ, suc, List, [], ◌∷◌, length, replicate, refl, ap, sym, ◌∙◌, subst}
 use Rattle.small_field.specs.Field.{Ops, IsField}
-use Rattle.linear_laws.specs.Vectors.{dot, boundary, AreElements, IsVector, IsMatrix, combination, plus_scaled}
-use Rattle.linear_laws.proofs.Dot.{dot_added, dot_comm, dot_below}
-use Rattle.linear_laws.proofs.Adjoint.{adjoint, killed}
-use Rattle.linear_laws.proofs.Span.{combination-vector, combination-plus, plus_scaled-vector}
+use Rattle.linear_laws.specs.Vectors.{dot, boundary, IsVector, IsMatrix, combination, plus_scaled}
+use Rattle.small_field.specs.Values.{AreElements}
+use Rattle.linear_laws.proofs.CallerLemmas.{dot_added, dot_comm, dot_below, adjoint, killed, combination-vector, combination-plus, plus_scaled-vector}
 use Rattle.split_laws.specs.Kinds.{Kind, criticals, part, spread, ZeroOnUppers, ZeroOnLowers, ZeroOffLowers, ZeroOffUppers}
 use Rattle.split_laws.specs.Split.{IsSplit}
 use Rattle.split_laws.specs.Solutions.{IsExtension, IsFlow, IsCleared, without}

@@ -1,12 +1,11 @@
 -- Two steps of a complex with a split.
 use Rattle.std.proofs.Common.{◌≡◌, ℕ, suc, ◌<◌, List, [], ◌∷◌, length, replicate, get_or, refl, ap, sym, ◌∙◌, arith, subst}
 use Rattle.std.specs.List.{AllByRecursion}
+use Rattle.std.proofs.lemmas.List.{ext_get_or}
 use Rattle.small_field.specs.Field.{Ops, IsField}
 use Rattle.linear_laws.specs.Marks.{mark}
 use Rattle.linear_laws.specs.Vectors.{dot, boundary, IsVector, IsMatrix, combination, plus_scaled, row_at, IsInKernel}
-use Rattle.linear_laws.proofs.Adjoint.{adjoint, zeros_dot}
-use Rattle.linear_laws.proofs.Marks.{dot_mark}
-use Rattle.linear_laws.proofs.Span.{zeros_plus, combination-vector, combination-plus, combination-zeros, plus_scaled-vector}
+use Rattle.linear_laws.proofs.CallerLemmas.{adjoint, zeros_dot, dot_mark, zeros_plus, combination-vector, combination-plus, combination-zeros, plus_scaled-vector}
 use Rattle.split_laws.specs.Kinds.{Kind, criticals, part, ZeroOnUppers, ZeroOnLowers}
 use Rattle.split_laws.specs.Solutions.{IsExtension, IsFlow, IsCleared, without}
 use Rattle.split_laws.specs.Complex.{IsSplitComplex, AreReduced}
@@ -19,14 +18,6 @@ use Rattle.split_laws.proofs.Linear
 pub all_from : (P : List ℕ → Type 0) (rows : List (List ℕ)) → ((i : ℕ) → i < length rows → P (row_at rows i)) → AllByRecursion P rows
 all_from P [] h = tt
 all_from P (r ∷ rows) h = (h 0 (omega arith), all_from P rows (λ i lt. h (suc i) (omega arith)))
-
-same_entries : (xs ys : List ℕ) → length xs ≡ length ys → ((i : ℕ) → i < length xs → get_or xs i 0 ≡ get_or ys i 0) → xs ≡ ys
-same_entries [] [] l h = refl
-same_entries [] (y ∷ ys) l h = absurd (omega (arith, l))
-same_entries (x ∷ xs) [] l h = absurd (omega (arith, l))
-same_entries (x ∷ xs) (y ∷ ys) l h =
-    let here : x ≡ y = h 0 (omega arith) in
-    ap (λ (z : ℕ). z ∷ xs) here ∙ ap (λ (zs : List ℕ). y ∷ zs) (same_entries xs ys (omega (arith, l)) (λ i lt. h (suc i) (omega arith)))
 
 module _ (F : Ops) (L : IsField F) where
   pub extensions_pair : ExtensionsPair F
@@ -113,7 +104,7 @@ module _ (F : Ops) (L : IsField F) where
         record {
           vector = vb;
           own =
-              same_entries (part us b) (boundary F (reduced (suc k)) c) (vp.long ∙ sym (boundary_long F (reduced (suc k)) c ∙ (R (suc k)).long))
+              ext_get_or 0 (part us b) (boundary F (reduced (suc k)) c) (vp.long ∙ sym (boundary_long F (reduced (suc k)) c ∙ (R (suc k)).long))
               (λ i lt.
               let li : i < criticals us = subst (λ (x : ℕ). i < x) vp.long lt in
               let e : List ℕ = mark_extension (suc k) i in

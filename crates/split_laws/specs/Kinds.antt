@@ -1,16 +1,25 @@
 -- A split sorts the cells of each degree into critical ones, lowers and uppers. (Discrete Morse theory; R. Forman.)
+-- ts is the list of the kinds of the cells of a degree, xs and ys lists with a value for each cell.
+--   criticals ts             how many critical cells there are
+--   part ts xs               the values on critical cells, in their order
+--   spread ts w              the values w for critical cells, and zero elsewhere
+--   ZeroOnUppers ts xs       zero on uppers
+--   ZeroOnLowers ts xs       zero on lowers
+--   ZeroOffLowers ts xs      zero but on lowers
+--   ZeroOffUppers ts xs      zero but on uppers
+--   AgreeOnLowers ts xs ys   equal on lowers
+--   AgreeOnUppers ts xs ys   equal on uppers
+--   HasNoUpper ts            no cell is an upper
 use Rattle.std.specs.Prelude.{◌≡◌, ⊤, ℕ, suc, List, [], ◌∷◌}
 pub use Rattle.split_laws.specs.declared.kind.Kind.{Kind}
 pub use Rattle.split_laws.specs.declared.kind.Kind.TheVariants.{Critical, Lower, Upper}
 
--- how many critical cells there are
 abbrev pub criticals : List Kind → ℕ
 criticals [] = 0
 criticals (Critical ∷ ts) = suc (criticals ts)
 criticals (Lower ∷ ts) = criticals ts
 criticals (Upper ∷ ts) = criticals ts
 
--- the values on critical cells, in their order
 abbrev pub part : List Kind → List ℕ → List ℕ
 part [] xs = []
 part (t ∷ ts) [] = []
@@ -18,7 +27,6 @@ part (Critical ∷ ts) (x ∷ xs) = x ∷ part ts xs
 part (Lower ∷ ts) (x ∷ xs) = part ts xs
 part (Upper ∷ ts) (x ∷ xs) = part ts xs
 
--- a value for each cell, zero on uppers; and zero on lowers
 abbrev pub ZeroOnUppers : List Kind → List ℕ → Type 0
 ZeroOnUppers [] xs = xs ≡ []
 ZeroOnUppers (t ∷ ts) [] = ⊥
@@ -33,7 +41,6 @@ ZeroOnLowers (Critical ∷ ts) (x ∷ xs) = ZeroOnLowers ts xs
 ZeroOnLowers (Lower ∷ ts) (x ∷ xs) = (x ≡ 0) × ZeroOnLowers ts xs
 ZeroOnLowers (Upper ∷ ts) (x ∷ xs) = ZeroOnLowers ts xs
 
--- a value for each cell, zero but on lowers; and zero but on uppers
 abbrev pub ZeroOffLowers : List Kind → List ℕ → Type 0
 ZeroOffLowers [] xs = xs ≡ []
 ZeroOffLowers (t ∷ ts) [] = ⊥
@@ -48,7 +55,6 @@ ZeroOffUppers (Critical ∷ ts) (x ∷ xs) = (x ≡ 0) × ZeroOffUppers ts xs
 ZeroOffUppers (Lower ∷ ts) (x ∷ xs) = (x ≡ 0) × ZeroOffUppers ts xs
 ZeroOffUppers (Upper ∷ ts) (x ∷ xs) = ZeroOffUppers ts xs
 
--- equal on lowers; and on uppers
 abbrev pub AgreeOnLowers : List Kind → List ℕ → List ℕ → Type 0
 AgreeOnLowers [] xs ys = ⊤
 AgreeOnLowers (t ∷ ts) [] ys = ⊥
@@ -65,7 +71,6 @@ AgreeOnUppers (Critical ∷ ts) (x ∷ xs) (y ∷ ys) = AgreeOnUppers ts xs ys
 AgreeOnUppers (Lower ∷ ts) (x ∷ xs) (y ∷ ys) = AgreeOnUppers ts xs ys
 AgreeOnUppers (Upper ∷ ts) (x ∷ xs) (y ∷ ys) = (x ≡ y) × AgreeOnUppers ts xs ys
 
--- values for critical cells, and zero elsewhere
 abbrev pub spread : List Kind → List ℕ → List ℕ
 spread [] w = []
 spread (Critical ∷ ts) [] = 0 ∷ spread ts []
@@ -73,7 +78,6 @@ spread (Critical ∷ ts) (x ∷ w) = x ∷ spread ts w
 spread (Lower ∷ ts) w = 0 ∷ spread ts w
 spread (Upper ∷ ts) w = 0 ∷ spread ts w
 
--- no cell is an upper
 abbrev pub HasNoUpper : List Kind → Type 0
 HasNoUpper [] = ⊤
 HasNoUpper (Critical ∷ ts) = HasNoUpper ts

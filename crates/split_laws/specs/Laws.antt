@@ -1,4 +1,17 @@
--- What holds of splits. `F` is the arithmetic of a field.
+-- What holds of splits. F is the arithmetic of a field.
+--   FieldsSplit F                  the pairs of a field, in its order, give a split
+--   SubstitutionSolves F           substitution along them solves
+--   IsOne P                        exactly one list has P
+--   SolutionsAreOne F              there is exactly one extension, one flow and one clearing
+--   ExtensionsPair F               the value of an extension on a flow is the pairing of their values on critical cells
+--   ReducedRowsAreCoboundaries F   the coboundary of an extension is, at the critical cells, the combination of the reduced rows
+--   ExtensionsCommute F            the coboundary of an extension is the extension of the reduced coboundary
+--   ReducedIsClosed F              two reduced steps give zero
+--   FlowsCommute F                 the boundary of a flow is the flow of the reduced boundary
+--   CocyclesClear F .. k x w y     the cocycle x less the coboundary of y is the extension of w, a cocycle of the reduced rows
+--   CocyclesAreExtensions F        so it is where y clears x and w is what is left on the critical cells
+--   BasesExtend F                  the extensions of a basis of the reduced cohomology are a basis of the cohomology
+--   BettiByReducedRanks F          the number of critical cells less the two ranks of the reduced rows is the length of a basis
 use Rattle.std.specs.Prelude.{◌≡◌, ℕ, suc, ◌+◌, List, length, replicate}
 use Rattle.std.specs.List.{AllByRecursion}
 use Rattle.small_field.specs.Field.{Ops}
@@ -13,11 +26,10 @@ use Rattle.split_laws.specs.Complex.{IsSplitComplex, AreReduced}
 
 -- ---- one step
 
--- the pairs of a field, in its order, give a split
 abbrev pub FieldsSplit : Ops → Type 0
 FieldsSplit F = (n m : ℕ) (rows : List (List ℕ)) (ts us : List Kind) (ps : List Match) → IsMatching F n m rows ts us ps → IsSplit F n m rows ts us
 
--- and substitution along them solves: forward from any cochain with the values on critical cells that is zero on uppers; backward
+-- forward from any cochain with the values on critical cells that is zero on uppers; backward
 -- from any chain with the values that is zero on lowers; and forward from zero
 pub record SubstitutionSolves (F : Ops) : Type 0 where
   pub extension : (n m : ℕ) (rows : List (List ℕ)) (ts us : List Kind) (ps : List Match) → IsMatching F n m rows ts us ps → (w y : List ℕ) → IsVector F n y → part ts y ≡ w → ZeroOnUppers ts y
@@ -27,24 +39,20 @@ pub record SubstitutionSolves (F : Ops) : Type 0 where
   pub clearing : (n m : ℕ) (rows : List (List ℕ)) (ts us : List Kind) (ps : List Match) → IsMatching F n m rows ts us ps → (x : List ℕ) → IsVector F m x
       → (let y = settle F rows x ps (replicate n 0) in IsCleared F n m rows ts us x (part us (without F m rows x y)) y)
 
--- exactly one list is such
 abbrev pub IsOne : (List ℕ → Type 0) → Type 0
 IsOne P = (x : List ℕ) × P x × ((y : List ℕ) → P y → y ≡ x)
 
--- there is exactly one extension, one flow and one clearing
 pub record SolutionsAreOne (F : Ops) : Type 0 where
   pub extension : (n m : ℕ) (rows : List (List ℕ)) (ts us : List Kind) → IsSplit F n m rows ts us → (w : List ℕ) → IsVector F (criticals ts) w → IsOne (IsExtension F n m rows ts us w)
   pub flow : (n m : ℕ) (rows : List (List ℕ)) (ts us : List Kind) → IsSplit F n m rows ts us → (c : List ℕ) → IsVector F (criticals us) c → IsOne (IsFlow F n m rows ts us c)
   pub clearing : (n m : ℕ) (rows : List (List ℕ)) (ts us : List Kind) → IsSplit F n m rows ts us → (x : List ℕ) → IsVector F m x
       → (w : List ℕ) × (y : List ℕ) × IsCleared F n m rows ts us x w y × ((v z : List ℕ) → IsCleared F n m rows ts us x v z → (v ≡ w) × (z ≡ y))
 
--- an extension on a flow is the pairing of their values on critical cells; the extension is of the degree of the flow
 abbrev pub ExtensionsPair : Ops → Type 0
 ExtensionsPair F =
     (n m l : ℕ) (last next : List (List ℕ)) (ts us vs : List Kind) (w x c z : List ℕ)
     → IsExtension F m l next us vs w x → IsFlow F n m last ts us c z → dot F x z ≡ dot F w c
 
--- the coboundary of an extension is, at the critical cells, the combination of the reduced rows
 abbrev pub ReducedRowsAreCoboundaries : Ops → Type 0
 ReducedRowsAreCoboundaries F =
     (n m : ℕ) (rows reduced : List (List ℕ)) (ts us : List Kind) → IsSplit F n m rows ts us → IsReducedBy F n m rows ts us reduced
@@ -52,27 +60,23 @@ ReducedRowsAreCoboundaries F =
 
 -- ---- a complex
 
--- the coboundary of an extension is the extension of the reduced coboundary
 abbrev pub ExtensionsCommute : Ops → Type 0
 ExtensionsCommute F =
     (N : ℕ → ℕ) (rows : ℕ → List (List ℕ)) (kinds : ℕ → List Kind) (reduced : ℕ → List (List ℕ)) → IsSplitComplex F N rows kinds → AreReduced F N rows kinds reduced
     → (k : ℕ) (w x : List ℕ) → IsExtension F (N k) (N (suc k)) (rows k) (kinds k) (kinds (suc k)) w x
     → IsExtension F (N (suc k)) (N (suc (suc k))) (rows (suc k)) (kinds (suc k)) (kinds (suc (suc k))) (combination F (criticals (kinds (suc k))) w (reduced k)) (combination F (N (suc k)) x (rows k))
 
--- two reduced steps give zero
 abbrev pub ReducedIsClosed : Ops → Type 0
 ReducedIsClosed F =
     (N : ℕ → ℕ) (rows : ℕ → List (List ℕ)) (kinds : ℕ → List Kind) (reduced : ℕ → List (List ℕ)) → IsSplitComplex F N rows kinds → AreReduced F N rows kinds reduced
     → (k : ℕ) → AllByRecursion (λ r. combination F (criticals (kinds (suc (suc k)))) r (reduced (suc k)) ≡ replicate (criticals (kinds (suc (suc k)))) 0) (reduced k)
 
--- the boundary of a flow is the flow of the reduced boundary
 abbrev pub FlowsCommute : Ops → Type 0
 FlowsCommute F =
     (N : ℕ → ℕ) (rows : ℕ → List (List ℕ)) (kinds : ℕ → List Kind) (reduced : ℕ → List (List ℕ)) → IsSplitComplex F N rows kinds → AreReduced F N rows kinds reduced
     → (k : ℕ) (c z : List ℕ) → IsFlow F (N (suc k)) (N (suc (suc k))) (rows (suc k)) (kinds (suc k)) (kinds (suc (suc k))) c z
     → IsFlow F (N k) (N (suc k)) (rows k) (kinds k) (kinds (suc k)) (boundary F (reduced (suc k)) c) (boundary F (rows (suc k)) z)
 
--- a cocycle less the coboundary that clears it is the extension of what is left on the critical cells, a cocycle of the reduced rows
 pub record CocyclesClear (F : Ops) (N : ℕ → ℕ) (rows : ℕ → List (List ℕ)) (kinds : ℕ → List Kind) (reduced : ℕ → List (List ℕ)) (k : ℕ) (x w y : List ℕ) : Type 0 where
   pub extension : IsExtension F (N (suc k)) (N (suc (suc k))) (rows (suc k)) (kinds (suc k)) (kinds (suc (suc k))) w (without F (N (suc k)) (rows k) x y)
   pub cocycle : IsInKernel F (criticals (kinds (suc (suc k)))) (reduced (suc k)) w
@@ -83,7 +87,6 @@ CocyclesAreExtensions F =
     → (k : ℕ) (x w y : List ℕ) → IsInKernel F (N (suc (suc k))) (rows (suc k)) x → IsCleared F (N k) (N (suc k)) (rows k) (kinds k) (kinds (suc k)) x w y
     → CocyclesClear F N rows kinds reduced k x w y
 
--- the extensions of a basis of the reduced cocycles modulo reduced coboundaries are a basis of the cocycles modulo coboundaries
 abbrev pub BasesExtend : Ops → Type 0
 BasesExtend F =
     (N : ℕ → ℕ) (rows : ℕ → List (List ℕ)) (kinds : ℕ → List Kind) (reduced : ℕ → List (List ℕ)) → IsSplitComplex F N rows kinds → AreReduced F N rows kinds reduced
@@ -91,7 +94,6 @@ BasesExtend F =
     → AreExtensions F (N (suc k)) (N (suc (suc k))) (rows (suc k)) (kinds (suc k)) (kinds (suc (suc k))) ws xs
     → IsCohomologyBasis F (N (suc (suc k))) (rows k) (rows (suc k)) xs
 
--- the number of critical cells less the two ranks of the reduced rows is the length of a basis of the cocycles modulo coboundaries
 abbrev pub BettiByReducedRanks : Ops → Type 0
 BettiByReducedRanks F =
     (N : ℕ → ℕ) (rows : ℕ → List (List ℕ)) (kinds : ℕ → List Kind) (reduced : ℕ → List (List ℕ)) → IsSplitComplex F N rows kinds → AreReduced F N rows kinds reduced

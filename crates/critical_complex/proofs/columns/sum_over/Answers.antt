@@ -1,6 +1,6 @@
 use Rattle.std.proofs.Common.{◌≡◌, ◌<◌, ℕ, length, get_or, ap, sym, ◌∙◌, subst, arith}
 use Rattle.small_field.specs.Field.{Ops}
-use Rattle.linear_laws.proofs.Dot.{zero_below}
+use Rattle.small_field.proofs.CallerLemmas.{zero_below}
 use Rattle.critical_complex.specs.Columns.{sum_on}
 use Rattle.critical_complex.proofs.ColumnLemmas.{column_long, column_entry_is, sum_below, sum_more, sum_end}
 use Rattle.critical_complex.proofs.columns.sum_over.Goals as goal

@@ -1,5 +1,5 @@
 use Rattle.std.proofs.Common.{ℕ, List, length, ap, ◌∙◌}
-use Rattle.split_laws.proofs.Parts.{spread_long}
+use Rattle.split_laws.proofs.CallerLemmas.{spread_long}
 use Rattle.critical_complex.proofs.Flows.{flow_is}
 use Rattle.critical_complex.proofs.flow.flow.Goals as goal
 

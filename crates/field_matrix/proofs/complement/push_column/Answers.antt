@@ -1,8 +1,7 @@
 use Rattle.std.proofs.Common.{◌≡◌, ℕ, ◌++◌, ◌∷◌, [], List, length, ap, sym, ◌∙◌, arith}
 use Rattle.std.proofs.lemmas.List.{take_all}
 use Rattle.linear_laws.specs.Vectors.{column}
-use Rattle.linear_laws.proofs.Betti.{length-column}
-use Rattle.linear_laws.proofs.Bump.{column_entry}
+use Rattle.linear_laws.proofs.CallerLemmas.{length-column, column_entry}
 use Rattle.field_matrix.specs.Rows.{cut}
 use Rattle.field_matrix.proofs.Cut.{length-cut}
 use Rattle.field_matrix.proofs.Turned.{number_more}

@@ -1,6 +1,6 @@
 use Rattle.std.proofs.Common.{◌≡◌, ℕ, ◌+◌, ◌++◌, List, length, length-append, append_assoc, ap, sym, ◌∙◌, arith}
 use Rattle.linear_laws.specs.Vectors.{column, row_at}
-use Rattle.linear_laws.proofs.Betti.{length-column}
+use Rattle.linear_laws.proofs.CallerLemmas.{length-column}
 use Rattle.field_matrix.specs.Rows.{cut}
 use Rattle.field_matrix.proofs.Cut.{length-cut}
 use Rattle.field_matrix.proofs.Turned.{column-append, row_more}

@@ -1,5 +1,5 @@
 use Rattle.std.proofs.Common.{◌≡◌, ℕ, ◌<◌, ◌≤◌, get_or}
-use Rattle.linear_laws.specs.Vectors.{AreElements}
+use Rattle.small_field.specs.Values.{AreElements}
 use Rattle.field_matrix.proofs.flat.scale.Given as goal
 
 abbrev pub invariant-loop-number : goal.invariant-loop-number

@@ -1,5 +1,5 @@
 use Rattle.std.proofs.Common.{◌≡◌, ℕ, List, length, map, set, sym, ap, ◌∙◌}
-use Rattle.linear_laws.proofs.Scaled.{scaled-vector}
+use Rattle.linear_laws.proofs.CallerLemmas.{scaled-vector}
 use Rattle.field_matrix.specs.Rows.{cut}
 use Rattle.field_matrix.proofs.Splits.{IsSplit, split_twice, mid_vector, row_is, put}
 use Rattle.field_matrix.proofs.flat.scale_row.Goals as goal

@@ -4,9 +4,7 @@ use Rattle.std.proofs.lemmas.Grind.{common_steps}
 use Rattle.linear_laws.specs.Marks.{identity, beside, lefts, rights}
 use Rattle.linear_laws.specs.Vectors.{IsMatrix, IsHistory}
 use Rattle.linear_laws.specs.Echelon.{IsReducedTo, rank_of}
-use Rattle.linear_laws.proofs.Marks.{beside_matrix, identity_matrix}
-use Rattle.linear_laws.proofs.Halves.{right_matrix}
-use Rattle.linear_laws.proofs.History.{left_reduced, history_of}
+use Rattle.linear_laws.proofs.CallerLemmas.{beside_matrix, identity_matrix, right_matrix, left_reduced, history_of}
 use Rattle.field_matrix.specs.Rows.{cut}
 use Rattle.field_matrix.proofs.Cut.{length-cut, cut-matrix, cut-elements}
 use Rattle.field_matrix.proofs.Ranks.{reduced_to_rank, few_pivots}

@@ -2,7 +2,7 @@ use Rattle.std.proofs.Common.{◌≡◌, ℕ, ◌+◌, ◌++◌, List, length, l
 use Rattle.std.proofs.lemmas.List.{take_all}
 use Rattle.linear_laws.specs.Marks.{mark, identity, beside}
 use Rattle.linear_laws.specs.Vectors.{row_at}
-use Rattle.linear_laws.proofs.Marks.{length-mark}
+use Rattle.linear_laws.proofs.CallerLemmas.{length-mark}
 use Rattle.field_matrix.specs.Rows.{cut}
 use Rattle.field_matrix.proofs.Cut.{length-cut}
 use Rattle.field_matrix.proofs.Built.{rows_more, joined_row, length-joined}

@@ -1,8 +1,7 @@
 use Rattle.std.proofs.Common.{◌≡◌, ℕ, ◌+◌, ◌++◌, List, length, take, ap, sym, ◌∙◌, arith}
-use Rattle.std.proofs.lemmas.List.{take_all, length-map, length-take-le}
+use Rattle.std.proofs.lemmas.List.{take_all, length-map, length-take-le, get_or-map}
 use Rattle.linear_laws.specs.Marks.{lefts}
 use Rattle.linear_laws.specs.Vectors.{row_at}
-use Rattle.linear_laws.proofs.Halves.{row_at-map}
 use Rattle.field_matrix.specs.Rows.{cut}
 use Rattle.field_matrix.proofs.Cut.{length-cut}
 use Rattle.field_matrix.proofs.Built.{rows_more}
@@ -22,7 +21,7 @@ loop-row-preserved c =
     let source : List ℕ = c.row_of.result.now in
     let ls : length source ≡ cols = c.row_of.ensures.long in
     let long : length (take width source) ≡ width = length-take-le width source (omega arith) in
-    let is : take width source ≡ row_at L i = ap (take width) c.row_of.ensures.row ∙ sym (row_at-map (take width) rows i (omega arith)) in
+    let is : take width source ≡ row_at L i = ap (take width) c.row_of.ensures.row ∙ sym (get_or-map (take width) rows i [] [] (omega arith)) in
     let more = rows_more i width old (take width source) L c.loop-row.invariant.long long (omega arith) is c.loop-row.invariant.rows in
     let new : c.extend_from_slice.new.self.items ≡ old ++ take width source = c.in_ok-extend_from_slice.ensures.items in
     record { long = ap length new ∙ more.0; rows = ap (cut (i + 1) width) new ∙ more.1 }

@@ -2,7 +2,7 @@ use Rattle.std.proofs.Common.{◌≡◌, ℕ, ◌+◌, ◌-◌, ◌*◌, ◌≤�
 use Rattle.linear_laws.specs.Marks.{identity, beside, rights}
 use Rattle.linear_laws.specs.Vectors.{IsMatrix, IsKernelBasis}
 use Rattle.linear_laws.specs.Echelon.{IsReducedTo}
-use Rattle.linear_laws.proofs.History.{few_rows, left_reduced, kernel_basis, kernel_matrix}
+use Rattle.linear_laws.proofs.CallerLemmas.{few_rows, left_reduced, kernel_basis, kernel_matrix}
 use Rattle.field_matrix.specs.Rows.{cut}
 use Rattle.field_matrix.proofs.Cut.{length-cut, cut-matrix, cut-elements}
 use Rattle.field_matrix.proofs.Ranks.{rank_unique}

@@ -1,6 +1,6 @@
 use Rattle.std.proofs.Common.{ℕ, ◌+◌, List, sym, subst}
 use Rattle.linear_laws.specs.Vectors.{IsMatrix}
-use Rattle.linear_laws.proofs.Marks.{beside_matrix, identity_matrix}
+use Rattle.linear_laws.proofs.CallerLemmas.{beside_matrix, identity_matrix}
 use Rattle.linear_laws.specs.Marks.{identity}
 use Rattle.field_matrix.specs.Rows.{cut}
 use Rattle.field_matrix.proofs.Cut.{cut-matrix}

@@ -1,11 +1,11 @@
 use Rattle.std.proofs.Common.{◌≡◌, ℕ, ◌+◌, ◌++◌, List, length, map, take, drop, replicate, not, sym, ap, ◌∙◌, subst}
+use Rattle.std.proofs.lemmas.Bool.{not-true, not-false}
 use Rattle.linear_laws.specs.Marks.{identity, beside}
 use Rattle.linear_laws.specs.Vectors.{IsVector, IsMatrix, combination}
 use Rattle.linear_laws.specs.Echelon.{IsReducedTo, is_nonzero}
 use Rattle.field_matrix.specs.Rows.{cut}
 use Rattle.field_matrix.specs.Steps.{IsSwept}
 use Rattle.field_matrix.proofs.Cut.{length-cut, cut-matrix}
-use Rattle.field_matrix.proofs.Ranks.{of_not_true, of_not_false}
 use Rattle.field_matrix.proofs.Solved.{answer_vector, solved, unsolvable}
 use Rattle.field_matrix.proofs.solve.solve_rows.Goals as goal
 
@@ -26,7 +26,7 @@ returns g c =
     let left : List ℕ = c.split_at.result.0.now in
     let is_left : left ≡ take m w = c.split_at.ensures.front ∙ ap (take m) c.deref.ensures.value in
     let told : c.is_zero.result ≡ not (is_nonzero (take m w)) = c.is_zero.ensures ∙ ap (λ (u : List ℕ). not (is_nonzero u)) is_left in
-    unsolvable k f m n r rows after a long h c.args.rhs.now w c.requires.rhs s c.in_ok-row.ensures.clear (of_not_false (is_nonzero (take m w)) (sym told ∙ c.if-is_zero.false))
+    unsolvable k f m n r rows after a long h c.args.rhs.now w c.requires.rhs s c.in_ok-row.ensures.clear (not-false (is_nonzero (take m w)) (sym told ∙ c.if-is_zero.false))
 
 pub returns-then-is_zero : goal.returns-then-is_zero
 returns-then-is_zero g c =
@@ -47,7 +47,7 @@ returns-then-is_zero g c =
     let told : c.is_zero.result ≡ not (is_nonzero (take m w)) = c.is_zero.ensures ∙ ap (λ (u : List ℕ). not (is_nonzero u)) is_left in
     let is : c.from_numbers.result ≡ drop m w = c.from_numbers.ensures ∙ (c.in_ok-numbers.ensures.items ∙ (c.split_at.ensures.back ∙ ap (drop m) c.deref.ensures.value)) in
     let vector : IsVector k n (drop m w) = answer_vector k f m n r rows after a long h c.args.rhs.now w c.requires.rhs s in
-    let solves : combination k m (drop m w) rows ≡ c.args.rhs.now = solved k f m n r rows after a long h c.args.rhs.now w c.requires.rhs s (of_not_true (is_nonzero (take m w)) (sym told ∙ c.if-is_zero.true)) in (
+    let solves : combination k m (drop m w) rows ≡ c.args.rhs.now = solved k f m n r rows after a long h c.args.rhs.now w c.requires.rhs s (not-true (is_nonzero (take m w)) (sym told ∙ c.if-is_zero.true)) in (
       subst (IsVector k (length rows)) (sym is) (subst (λ (j : ℕ). IsVector k j (drop m w)) (sym long) vector),
       ap (λ (cs : List ℕ). combination k m cs rows) is ∙ solves,
     )

@@ -1,6 +1,6 @@
 use Rattle.std.proofs.Common.{◌≡◌, ◌<◌, ℕ, List, length, get_or, length-set, ap, sym, ◌∙◌, subst, arith}
 use Rattle.split_laws.specs.Kinds.{criticals, part}
-use Rattle.split_laws.proofs.Parts.{part-long}
+use Rattle.split_laws.proofs.CallerLemmas.{part-long}
 use Rattle.critical_complex.specs.Stages.{Stage, critical_from}
 use Rattle.critical_complex.proofs.Placed.{index_in, number_is, number_low, number_high, part_step, same_list}
 use Rattle.critical_complex.proofs.stage.Stage.part.Goals as goal

@@ -1,7 +1,7 @@
 use Rattle.std.proofs.Common.{◌≡◌, ◌<◌, ℕ, List, take, length, get_or, replicate, ap, sym, ◌∙◌, arith}
 use Rattle.std.proofs.lemmas.List.{take_all}
 use Rattle.split_laws.specs.Kinds.{criticals, spread}
-use Rattle.split_laws.proofs.Parts.{spread_long}
+use Rattle.split_laws.proofs.CallerLemmas.{spread_long}
 use Rattle.critical_complex.specs.Stages.{Stage, critical_from}
 use Rattle.critical_complex.proofs.Placed.{index_in, number_is, number_low, number_high, spread_step, spread_nothing}
 use Rattle.critical_complex.proofs.stage.Stage.spread.Goals as goal

@@ -1,7 +1,7 @@
 use Rattle.std.proofs.Common.{◌≡◌, ℕ, ◌++◌, ◌*◌, ◌<◌, List, length, length-set, set, take, drop, sym, ap, ◌∙◌, arith, subst}
 use Rattle.std.proofs.lemmas.Grind.{common_steps}
 use Rattle.linear_laws.specs.Vectors.{IsVector, IsMatrix, row_at}
-use Rattle.linear_laws.proofs.Span.{all_set}
+use Rattle.linear_laws.proofs.CallerLemmas.{all_set}
 use Rattle.field_matrix.specs.Rows.{cut, IsFilled}
 use Rattle.field_matrix.proofs.Cut.{cut-matrix, cut-elements}
 use Rattle.field_matrix.proofs.Splits.{row_vector}
@@ -31,7 +31,7 @@ invariant_of-self g c =
     let row : List ℕ = set (row_at (cut n cols c.deref_mut.result.now) c.args.row) c.args.col number in
     let vector : IsVector k cols row = record {
       long = length-set (row_at (cut n cols c.deref_mut.result.now) c.args.row) c.args.col number ∙ old.long;
-      elements = all_set k f (λ x. x < k.size) (row_at (cut n cols c.deref_mut.result.now) c.args.row) c.args.col number small old.elements;
+      elements = all_set (λ x. x < k.size) (row_at (cut n cols c.deref_mut.result.now) c.args.row) c.args.col number small old.elements;
     } in
-    let b : IsMatrix k cols (cut n cols new) = subst (IsMatrix k cols) (sym c.set_entry.ensures) (all_set k f (IsVector k cols) (cut n cols c.deref_mut.result.now) c.args.row row vector a) in
+    let b : IsMatrix k cols (cut n cols new) = subst (IsMatrix k cols) (sym c.set_entry.ensures) (all_set (IsVector k cols) (cut n cols c.deref_mut.result.now) c.args.row row vector a) in
     subst (IsFilled k n cols) (sym same) (record { long = long; elements = cut-elements k n cols new long b })

@@ -1,8 +1,8 @@
 use Rattle.std.proofs.Common.{◌≡◌, ◌≤◌, ◌<◌, ◌+◌, ◌++◌, ◌∷◌, ◌==◌, [], ℕ, List, Bool, true, false, cond, length, take, get_or, All, ap, sym, ◌∙◌, subst, arith}
 use Rattle.std.proofs.lemmas.List.{take_more, append_assoc, append-nil, length-take-le, get_or_default}
 use Rattle.std.proofs.lemmas.List.Elements.{All-append, All-cons, All-nil}
-use Rattle.order_complex.specs.Values.{entries_from, entry_of}
-use Rattle.order_complex.proofs.cochain.Cochain.sparse.Goals as goal
+use Rattle.small_field.specs.Values.{entries_from, entry_of}
+use Rattle.small_field.proofs.cochain.Cochain.sparse.Goals as goal
 
 -- one value more
 entries-snoc : (n : ℕ) (xs : List ℕ) (x : ℕ) → entries_from n (xs ++ x ∷ []) ≡ entries_from n xs ++ entry_of (n + length xs) x

@@ -1,9 +1,9 @@
 // Cochains, and chains with coefficients.
 ghost use Rattle.std.specs.Prelude.{◌≡◌, ◌≤◌, ◌-◌, ◌<◌, ◌^◌, ◌++◌, All, length, replicate, slice_index, slice_set, IfOk, OnOk};
-ghost use Rattle.linear_laws.specs.Vectors.{AreElements};
-ghost use Rattle.order_complex.specs.Values.{entries_from, entry_of};
+ghost use Rattle.small_field.specs.Values.{AreElements, entries_from, entry_of};
 
-use small_field::{Entry, Field, Sparse};
+use crate::field::Field;
+use crate::sparse::{Entry, Sparse};
 use std::alloc::{AllocError, Global};
 use std::marker::{Model, PhantomData};
 
@@ -17,7 +17,7 @@ pub struct Cochain<F: Field> {
 
 impl<F: Field> Model for Cochain<F> {
     ghost use Rattle.std.specs.Prelude.{ℕ, List};
-    ghost use Rattle.order_complex.specs.Values.{AreValues};
+    ghost use Rattle.small_field.specs.Values.{AreValues};
 
     ghost Value = { List ℕ };
 

@@ -1,0 +1,4 @@
+-- What other crates may cite of the proofs here.
+
+-- what first_place is: the place of a number that is not 0 behind zeros alone, and None where all are 0
+pub use Rattle.lane_rows.proofs.Loops.{place_found, place_missing}
