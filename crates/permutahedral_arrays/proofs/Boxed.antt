@@ -1,11 +1,10 @@
 -- All cells of a box, by the places of their points.
 use Rattle.std.proofs.Common.{◌≡◌, ℕ, ◌+◌, ◌*◌, ◌/◌, ◌%◌, ◌<◌, ◌≤◌, List, [], ◌∷◌, ◌++◌, Bool, true, false, ◌&&◌, eqb, nat_lt, ltb-true, lt-ltb, eqb-true, eq-eqb, map, filter, get_or, refl, ap, sym, ◌∙◌, arith}
 use Rattle.std.specs.List.{range_with_len, flat_map, list_any, list_all}
-use Rattle.std.proofs.lemmas.Bool.{false≢true}
+use Rattle.std.proofs.lemmas.Bool.{false≢true, and_from}
 use Rattle.std.proofs.lemmas.List.{append-nil}
 use Rattle.std.proofs.lemmas.Nat.{mod_below, div_below}
-use Rattle.regular_check.proofs.Members.{and-left, and-right, and-both}
-use Rattle.regular_check.proofs.Passing.{same_bool}
+use Rattle.number_lists.proofs.CallerLemmas.{and-left, and-right, same_bool}
 use Rattle.tuple_spaces.specs.Tuples.{same}
 use Rattle.tuple_spaces.proofs.Triples.{same-eq}
 use Rattle.permutahedral_arrays.specs.Places as places
@@ -50,10 +49,10 @@ to_fitting r k (x ∷ y ∷ z ∷ []) h = fitting x y z (ltb-true y (r + 2) (and
 to_fitting r k (x ∷ y ∷ z ∷ w ∷ ws) h = absurd (false≢true h)
 
 pub fits-true : (r k x y z : ℕ) → y < r + 2 → z < k + 2 → fits r k (x ∷ y ∷ z ∷ []) ≡ true
-fits-true r k x y z l m = and-both (nat_lt y (r + 2)) (nat_lt z (k + 2)) (lt-ltb y (r + 2) l) (lt-ltb z (k + 2) m)
+fits-true r k x y z l m = and_from (nat_lt y (r + 2)) (nat_lt z (k + 2)) (lt-ltb y (r + 2) l) (lt-ltb z (k + 2) m)
 
 same_triple : (x y z u v w : ℕ) → x ≡ u → y ≡ v → z ≡ w → same (x ∷ y ∷ z ∷ []) (u ∷ v ∷ w ∷ []) ≡ true
-same_triple x y z u v w a b c = and-both (eqb x u) (eqb y v && (eqb z w && true)) (eq-eqb x u a) (and-both (eqb y v) (eqb z w && true) (eq-eqb y v b) (and-both (eqb z w) true (eq-eqb z w c) refl))
+same_triple x y z u v w a b c = and_from (eqb x u) (eqb y v && (eqb z w && true)) (eq-eqb x u a) (and_from (eqb y v) (eqb z w && true) (eq-eqb y v b) (and_from (eqb z w) true (eq-eqb z w c) refl))
 
 once_fitting : (r k : ℕ) {t u : List ℕ} → Fitting r k t → Fitting r k u → eqb (place_of r k u) (place_of r k t) ≡ same t u
 once_fitting r k (fitting x y z a b) (fitting u v w c d) =

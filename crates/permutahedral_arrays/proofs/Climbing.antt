@@ -6,7 +6,7 @@ use Rattle.std.proofs.Math.Nat.{add-mul, mul-le-mul_left, mul-le-mul_right}
 use Rattle.std.proofs.lemmas.Bool.{false≢true, leb-true, ltb-true}
 use Rattle.std.proofs.lemmas.List.Elements.{All-cons, All-nil}
 use Rattle.face_poset.specs.Poset.{IsCell}
-use Rattle.regular_check.proofs.Members.{and-left, and-right}
+use Rattle.number_lists.proofs.CallerLemmas.{and-left, and-right}
 use Rattle.tuple_spaces.proofs.TorusStages.{by_dim}
 use Rattle.permutahedral_arrays.specs.Places.{step, is_below, shapes_in, cell_at, holds}
 

@@ -1,11 +1,10 @@
 -- The points of the bits that are 1.
 use Rattle.std.proofs.Common.{◌≡◌, inl, inr, ℕ, zero, suc, ◌+◌, ◌-◌, ◌*◌, ◌<◌, ◌≤◌, List, [], ◌∷◌, ◌++◌, Bool, true, false, cond, ◌&&◌, ◌||◌, eqb, nat_lt, nat_le, ltb-true, lt-ltb, le-leb, eqb-true, eq-eqb, ne_eqb, map, drop, get_or, length, refl, ap, sym, ◌∙◌, arith, add-mul, mul_assoc}
 use Rattle.std.specs.List.{range_with_len, flat_map, list_any, items_where_true}
-use Rattle.std.proofs.lemmas.Bool.{cases_lt, false≢true}
+use Rattle.std.proofs.lemmas.Bool.{cases_lt, false≢true, and_from}
 use Rattle.std.proofs.lemmas.List.{length-append, length-map, get_or-drop, drop-drop}
 use Rattle.std.proofs.lemmas.List.Folds.{list_any-append}
-use Rattle.regular_check.proofs.Members.{and-both}
-use Rattle.regular_check.proofs.Passing.{same_bool}
+use Rattle.number_lists.proofs.CallerLemmas.{same_bool}
 use Rattle.tuple_spaces.specs.Tuples.{same}
 use Rattle.permutahedral_arrays.specs.Places.{is_inside, mark_at}
 use Rattle.permutahedral_arrays.specs.Permutahedra.{boxed, present_of, is_among}
@@ -180,7 +179,7 @@ any-zero cs (t ∷ ts) h = ap (λ (b : Bool). b || list_any (same cs) (map (map 
 below_le : (size c : ℕ) → is_inside size (suc c) ≡ nat_lt c size
 below_le size c =
     same_bool (is_inside size (suc c)) (nat_lt c size) (λ e. let w = inside size (suc c) e in lt-ltb c size (omega (arith, w.1)))
-    (λ e. let l : c < size = ltb-true c size e in and-both (nat_lt 0 (suc c)) (nat_le (suc c) size) (lt-ltb 0 (suc c) (omega arith)) (le-leb (suc c) size (omega (arith, l))))
+    (λ e. let l : c < size = ltb-true c size e in and_from (nat_lt 0 (suc c)) (nat_le (suc c) size) (lt-ltb 0 (suc c) (omega arith)) (le-leb (suc c) size (omega (arith, l))))
 
 inside-true : (size c : ℕ) → c < size → is_inside size (suc c) ≡ true
 inside-true size c l = below_le size c ∙ lt-ltb c size l

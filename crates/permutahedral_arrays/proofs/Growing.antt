@@ -10,9 +10,8 @@ use Rattle.std.proofs.lemmas.List.Kept.{IsStrictlyIncreasing-filter}
 use Rattle.face_poset.specs.Words.{upto}
 use Rattle.face_poset.specs.Poset.{IsCell, count}
 use Rattle.number_lists.specs.Cofaces.{cells_with, coface_lists}
-use Rattle.number_lists.proofs.CallerLemmas.{increasing-upto}
-use Rattle.regular_check.proofs.Members.{In, at-In, In-inside}
-use Rattle.regular_check.proofs.Joined.{upto-In}
+use Rattle.number_lists.proofs.CallerLemmas.{increasing-upto, at-In, In-inside, upto-In}
+use Rattle.number_lists.specs.Members.{In}
 use Rattle.permutahedral_arrays.specs.Places.{holds, facets_of}
 
 append_none : {A : Type 0} (xs : List A) → xs ++ [] ≡ xs

@@ -2,7 +2,8 @@
 use Rattle.std.proofs.Common.{◌≡◌, ℕ, zero, suc, ◌-◌, List, [], ◌∷◌, Bool, true, false, cond, ◌&&◌, ◌||◌, eqb, map, filter, length, get_or, refl, ap, sym, ◌∙◌}
 use Rattle.std.specs.List.{list_any, list_all}
 use Rattle.std.proofs.lemmas.List.{length-map}
-use Rattle.regular_check.proofs.Members.{and-left, and-right, and-both}
+use Rattle.number_lists.proofs.CallerLemmas.{and-left, and-right}
+use Rattle.std.proofs.lemmas.Bool.{and_from}
 use Rattle.face_poset.specs.Words.{upto}
 use Rattle.tuple_spaces.specs.Tuples.{same}
 use Rattle.permutahedral_arrays.specs.Places as places
@@ -61,12 +62,12 @@ module _ (pass : ℕ → Bool) (at : ℕ → ℕ) (mark : ℕ → Bool) (unmarke
 module _ {X : Type 0} (pass : ℕ → Bool) (point : ℕ → X) (ok : X → Bool) (good : (v : ℕ) → pass v ≡ true → ok (point v) ≡ true) where
   good-points : (shape : List ℕ) → list_all pass shape ≡ true → list_all ok (map point shape) ≡ true
   good-points [] h = refl
-  good-points (v ∷ vs) h = and-both (ok (point v)) (list_all ok (map point vs)) (good v (and-left (pass v) (list_all pass vs) h)) (good-points vs (and-right (pass v) (list_all pass vs) h))
+  good-points (v ∷ vs) h = and_from (ok (point v)) (list_all ok (map point vs)) (good v (and-left (pass v) (list_all pass vs) h)) (good-points vs (and-right (pass v) (list_all pass vs) h))
 
   pub good-cells : (shapes : List (List ℕ)) → list_all (list_all pass) shapes ≡ true → list_all (list_all ok) (map (map point) shapes) ≡ true
   good-cells [] h = refl
   good-cells (s ∷ ss) h =
-      and-both (list_all ok (map point s)) (list_all (list_all ok) (map (map point) ss)) (good-points s (and-left (list_all pass s) (list_all (list_all pass) ss) h))
+      and_from (list_all ok (map point s)) (list_all (list_all ok) (map (map point) ss)) (good-points s (and-left (list_all pass s) (list_all (list_all pass) ss) h))
       (good-cells ss (and-right (list_all pass s) (list_all (list_all pass) ss) h))
 
 -- ---- facets

@@ -1,15 +1,15 @@
 -- What is true of the cells of shapes: their points increase, and a cell with fewer points has a facet.
 use Rattle.std.proofs.Common.{◌≡◌, inl, inr, ℕ, ◌+◌, ◌-◌, ◌≤◌, List, [], ◌∷◌, Bool, true, false, cond, ◌==◌, filter, map, length, get_or, refl, ap, sym, ◌∙◌, subst, arith}
 use Rattle.std.specs.List.{list_all, list_any, flat_map, range_with_len, All}
-use Rattle.std.proofs.lemmas.Bool.{false≢true}
+use Rattle.std.proofs.lemmas.Bool.{false≢true, or_left, or_right, or_cases}
 use Rattle.std.proofs.lemmas.List.{get_or_default}
 use Rattle.std.proofs.lemmas.List.Elements.{All-nil, All-cons, All-head, All-tail, All-append}
 use Rattle.std.proofs.lemmas.List.Folds.{list_any-append, Any-from_list_any}
 use Rattle.std.proofs.lemmas.List.Sums.{AllPass-from_list_all}
 use Rattle.face_poset.specs.Words.{upto}
 use Rattle.face_poset.specs.Poset.{IsCell}
-use Rattle.regular_check.proofs.Members.{In, here, there, In-at, In-filter, In-all, all-In, any-In, any-some, holds-In, In-holds, or-left, or-right, or-cases}
-use Rattle.regular_check.proofs.Joined.{upto-In, In-upto}
+use Rattle.number_lists.specs.Members.{In, here, there}
+use Rattle.number_lists.proofs.CallerLemmas.{In-at, In-filter, In-all, all-In, any-In, any-some, holds-In, In-holds, upto-In, In-upto}
 use Rattle.tuple_spaces.proofs.TorusNumbers.{In-map, map-In}
 use Rattle.permutahedral_arrays.specs.Places.{step, cell_at, is_present, cells_at, cells_of, holds, facets_of}
 use Rattle.permutahedral_arrays.proofs.Climbing.{climbs, climb, are_refined}
@@ -44,25 +44,25 @@ cells-fit slab row most marks shapes a b m h =
 -- ---- some cell
 
 any_first : (r : List ℕ → Bool) (x : List ℕ) (xs : List (List ℕ)) (b : Bool) → b ≡ true → r x ≡ true → list_any r (cond b (x ∷ xs) xs) ≡ true
-any_first r x xs true e h = or-left (r x) (list_any r xs) h
+any_first r x xs true e h = or_left (r x) (list_any r xs) h
 any_first r x xs false e h = absurd (false≢true e)
 
 any_later : (r : List ℕ → Bool) (x : List ℕ) (xs : List (List ℕ)) (b : Bool) → list_any r xs ≡ true → list_any r (cond b (x ∷ xs) xs) ≡ true
-any_later r x xs true h = or-right (r x) (list_any r xs) h
+any_later r x xs true h = or_right (r x) (list_any r xs) h
 any_later r x xs false h = h
 
 any_kept : (p q r : List ℕ → Bool) (g : List ℕ → List ℕ) (shapes : List (List ℕ)) → list_any q shapes ≡ true → ((s : List ℕ) → q s ≡ true → p (g s) ≡ true) → ((s : List ℕ) → q s ≡ true → r (g s) ≡ true)
     → list_any r (filter p (map g shapes)) ≡ true
 any_kept p q r g [] e a b = absurd (false≢true e)
 any_kept p q r g (s ∷ ss) e a b =
-    elim (or-cases (q s) (list_any q ss) e) [
+    elim (or_cases (q s) (list_any q ss) e) [
       | inl h ↦ any_first r (g s) (filter p (map g ss)) (p (g s)) (a s h) (b s h)
       | inr h ↦ any_later r (g s) (filter p (map g ss)) (p (g s)) (any_kept p q r g ss h a b)
     ]
 
 any_flat : (r : List ℕ → Bool) (f : ℕ → List (List ℕ)) {x : ℕ} {xs : List ℕ} → In x xs → list_any r (f x) ≡ true → list_any r (flat_map f xs) ≡ true
-any_flat r f {x} (here {xs}) h = list_any-append r (f x) (flat_map f xs) ∙ or-left (list_any r (f x)) (list_any r (flat_map f xs)) h
-any_flat r f (there {y} {xs} i) h = list_any-append r (f y) (flat_map f xs) ∙ or-right (list_any r (f y)) (list_any r (flat_map f xs)) (any_flat r f i h)
+any_flat r f {x} (here {xs}) h = list_any-append r (f x) (flat_map f xs) ∙ or_left (list_any r (f x)) (list_any r (flat_map f xs)) h
+any_flat r f (there {y} {xs} i) h = list_any-append r (f y) (flat_map f xs) ∙ or_right (list_any r (f y)) (list_any r (flat_map f xs)) (any_flat r f i h)
 
 some_length : (r : List ℕ → Bool) (xs : List (List ℕ)) → list_any r xs ≡ true → 1 ≤ length xs
 some_length r [] h = absurd (false≢true h)

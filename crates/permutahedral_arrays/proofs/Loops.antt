@@ -4,7 +4,8 @@ use Rattle.std.specs.List.{range_with_len, flat_map, list_all}
 use Rattle.std.proofs.lemmas.List.{append-nil, map-append}
 use Rattle.std.proofs.lemmas.List.Concat.{flat_map-append}
 use Rattle.std.proofs.lemmas.List.Elements.{filter-append}
-use Rattle.regular_check.proofs.Members.{and-left, and-right, and-both}
+use Rattle.number_lists.proofs.CallerLemmas.{and-left, and-right}
+use Rattle.std.proofs.lemmas.Bool.{and_from}
 use Rattle.permutahedral_arrays.specs.Permutahedra.{boxed}
 
 pub map_same : {A B : Type 0} (f g : A → B) (xs : List A) → ((x : A) → f x ≡ g x) → map f xs ≡ map g xs
@@ -152,7 +153,7 @@ boxed_three g a b c =
 
 all-append : {A : Type 0} (p : A → Bool) (xs ys : List A) → list_all p xs ≡ true → list_all p ys ≡ true → list_all p (xs ++ ys) ≡ true
 all-append p [] ys h k = k
-all-append p (x ∷ xs) ys h k = and-both (p x) (list_all p (xs ++ ys)) (and-left (p x) (list_all p xs) h) (all-append p xs ys (and-right (p x) (list_all p xs) h) k)
+all-append p (x ∷ xs) ys h k = and_from (p x) (list_all p (xs ++ ys)) (and-left (p x) (list_all p xs) h) (all-append p xs ys (and-right (p x) (list_all p xs) h) k)
 
 pub all-loop : {A : Type 0} (p : A → Bool) (f : ℕ → List A) (a n : ℕ) → ((x : ℕ) → x < a + n → list_all p (f x) ≡ true) → list_all p (flat_map f (range_with_len a n)) ≡ true
 all-loop p f a zero h = refl
@@ -163,5 +164,5 @@ all-filter p q [] h = refl
 all-filter p q (x ∷ xs) h = by_test (q x) (and-left (p x) (list_all p xs) h) (all-filter p q xs (and-right (p x) (list_all p xs) h))
   where
     by_test : (b : Bool) → p x ≡ true → list_all p (filter q xs) ≡ true → list_all p (cond b (x ∷ filter q xs) (filter q xs)) ≡ true
-    by_test true e f = and-both (p x) (list_all p (filter q xs)) e f
+    by_test true e f = and_from (p x) (list_all p (filter q xs)) e f
     by_test false e f = f

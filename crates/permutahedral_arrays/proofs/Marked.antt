@@ -1,12 +1,11 @@
 -- The mark at the place of a point.
 use Rattle.std.proofs.Common.{◌≡◌, inl, inr, ℕ, suc, ◌+◌, ◌-◌, ◌*◌, ◌/◌, ◌%◌, ◌<◌, ◌≤◌, List, Bool, true, false, cond, ◌&&◌, nat_lt, nat_le, ltb-true, leb-true, get_or, length, ap, sym, ◌∙◌, arith}
 use Rattle.std.proofs.Math.Nat.{mul-le-mul_right, mul-pos, mul_assoc, add-mul}
-use Rattle.std.proofs.lemmas.Bool.{cases_lt}
+use Rattle.std.proofs.lemmas.Bool.{cases_lt, false_from_ne_true}
 use Rattle.std.proofs.lemmas.Nat.{div-mul-add, mod-mul-add, mod_below, le-div}
 use Rattle.std.proofs.lemmas.List.{get_or_past}
 use Rattle.std.proofs.lemmas.List.FromFn.{length-map-range_with_len, get_or-map-range_with_len}
-use Rattle.regular_check.proofs.Passing.{not_true}
-use Rattle.regular_check.proofs.Members.{and-left, and-right}
+use Rattle.number_lists.proofs.CallerLemmas.{and-left, and-right}
 use Rattle.permutahedral_arrays.specs.Places.{step, is_present, is_inside, mark_at, mark_of, marks_of}
 
 -- how many points a plane has
@@ -16,7 +15,7 @@ slab_of rows columns = (rows + 2) * (columns + 2)
 -- ---- points outside
 
 and_three : (a b c v : Bool) → ((a && (b && c)) ≡ true → ⊥) → cond (a && (b && c)) v false ≡ false
-and_three a b c v h = ap (λ (t : Bool). cond t v false) (not_true (a && (b && c)) h)
+and_three a b c v h = ap (λ (t : Bool). cond t v false) (false_from_ne_true (a && (b && c)) h)
 
 pub inside : (size c : ℕ) → is_inside size c ≡ true → (1 ≤ c) × (c ≤ size)
 inside size c e =

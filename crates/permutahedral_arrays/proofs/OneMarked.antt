@@ -2,18 +2,17 @@
 use Rattle.std.proofs.Common.{◌≡◌, ℕ, zero, suc, ◌+◌, ◌-◌, ◌*◌, ◌/◌, ◌%◌, ◌<◌, ◌≤◌, List, [], ◌∷◌, Bool, true, false, cond, ◌&&◌, length, get_or, ap, ◌∙◌, arith}
 use Rattle.std.specs.List.{list_any}
 use Rattle.std.proofs.Math.Nat.{mul_assoc, add-mul, mul-le-mul_right, mul-zero, zero-mul}
-use Rattle.std.proofs.lemmas.Bool.{lt-ltb, le-leb}
+use Rattle.std.proofs.lemmas.Bool.{lt-ltb, le-leb, and_from}
 use Rattle.std.proofs.lemmas.Nat.{div-add-mod', mod_below, div_below}
 use Rattle.std.proofs.lemmas.List.{get_or_default}
 use Rattle.std.proofs.lemmas.List.FromFn.{get_or-map-range_with_len}
 use Rattle.std.proofs.lemmas.List.Folds.{list_any_at, Any-from_list_any}
-use Rattle.regular_check.proofs.Members.{and-both}
 use Rattle.array_values.specs.Bits.{volume}
 use Rattle.permutahedral_arrays.specs.Places.{is_inside, mark_at, mark_of, marks_of, from_end}
 use Rattle.permutahedral_arrays.proofs.Marked.{row_below, mark_is, length-marks}
 
 inside : (size c : ℕ) → c < size → is_inside size (c + 1) ≡ true
-inside size c l = and-both _ _ (lt-ltb 0 (c + 1) (omega arith)) (le-leb (c + 1) size (omega (arith, l)))
+inside size c l = and_from _ _ (lt-ltb 0 (c + 1) (omega arith)) (le-leb (c + 1) size (omega (arith, l)))
 
 -- the mark of the point of a bit
 mark-bit : (planes rows columns : ℕ) (bits : List Bool) (x y z : ℕ) → x < planes → y < rows → z < columns → mark_at planes rows columns bits (x + 1) (y + 1) (z + 1) ≡ get_or bits ((x * rows + y) * columns + z) false
@@ -22,7 +21,7 @@ mark-bit planes rows columns bits x y z lx ly lz =
     let f : (y + 1 - 1) ≡ y = omega arith in
     let g : (z + 1 - 1) ≡ z = omega arith in
     ap (λ (b : Bool). cond b (get_or bits (((x + 1 - 1) * rows + (y + 1 - 1)) * columns + (z + 1 - 1)) false) false)
-    (and-both (is_inside planes (x + 1)) (is_inside rows (y + 1) && is_inside columns (z + 1)) (inside planes x lx) (and-both (is_inside rows (y + 1)) (is_inside columns (z + 1)) (inside rows y ly) (inside columns z lz)))
+    (and_from (is_inside planes (x + 1)) (is_inside rows (y + 1) && is_inside columns (z + 1)) (inside planes x lx) (and_from (is_inside rows (y + 1)) (is_inside columns (z + 1)) (inside rows y ly) (inside columns z lz)))
     ∙ (ap (λ (n : ℕ). get_or bits ((n * rows + (y + 1 - 1)) * columns + (z + 1 - 1)) false) e
     ∙ (ap (λ (n : ℕ). get_or bits ((x * rows + n) * columns + (z + 1 - 1)) false) f ∙ ap (λ (n : ℕ). get_or bits ((x * rows + y) * columns + n) false) g))
 

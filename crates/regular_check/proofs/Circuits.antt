@@ -1,23 +1,20 @@
 -- Edges that are listed so that they go once round: each vertex of theirs has two of them, and they are connected.
-use Rattle.std.proofs.Common.{◌≡◌, ◌≢◌, ◌⊎◌, inl, inr, ℕ, zero, suc, ◌+◌, ◌-◌, ◌<◌, ◌≤◌, List, [], ◌∷◌, ◌++◌, Bool, true, false, ◌&&◌, cond, eqb, map, length, take, drop, get_or, refl, ap, sym, ◌∙◌, subst, arith}
+use Rattle.std.proofs.Common.{◌≡◌, ◌≢◌, ◌⊎◌, inl, inr, ℕ, zero, suc, ◌+◌, ◌-◌, ◌<◌, ◌≤◌, List, [], ◌∷◌, ◌++◌, Bool, true, false, cond, eqb, map, length, take, drop, get_or, refl, ap, sym, ◌∙◌, subst, arith}
 use Rattle.std.specs.List.{list_all}
 use Rattle.std.specs.List.Sorted.{IsStrictlyIncreasing}
-use Rattle.std.proofs.lemmas.Bool.{eqb-true, eq-eqb, cases_lt}
-use Rattle.std.proofs.lemmas.Bool.Decides.{eqb_tells}
-use Rattle.std.proofs.lemmas.List.{get_or-map, get_or_default, get_or_past, length-map, length-append}
+use Rattle.std.proofs.lemmas.Bool.{eqb-true, eq-eqb, cases_lt, and_from}
+use Rattle.std.proofs.lemmas.List.{get_or-map, get_or_default, get_or_past, length-map}
 use Rattle.std.proofs.lemmas.List.Kept.{IsStrictlyIncreasing-filter}
-use Rattle.face_poset.specs.Words.{holds}
-use Rattle.face_poset.specs.Poset.{IsCell, IsSpace, count, facets_of}
+use Rattle.number_lists.specs.Words.{holds}
+use Rattle.face_poset.specs.Poset.{IsCell, count, facets_of}
 use Rattle.regular_check.specs.declared.cycles.Step.{Step}
-use Rattle.regular_check.specs.Reach.{reaches, Reaches, at_start, on}
+use Rattle.number_lists.specs.Reach.{reaches, Reaches, at_start, on}
 use Rattle.regular_check.specs.Rules.{sharing, meet, each_twice, connected, two_ends}
 use Rattle.regular_check.specs.Cycle.{start_of, end_of, GoesRound, OneCycleGoesRound, cycle}
-use Rattle.regular_check.proofs.Members.{In, here, there, In-filter, In-inside, filter-In, any-In, all-In, In-all, holds-In, In-holds, In-at, at-In, and-left, and-right, and-both}
+use Rattle.number_lists.specs.Members.{In, here, there}
+use Rattle.number_lists.proofs.CallerLemmas.{In-filter, In-inside, filter-In, any-In, all-In, In-all, holds-In, In-holds, In-at, at-In, and-left, and-right, reaches_is, length-inside, distinct_rising}
 use Rattle.regular_check.proofs.Cells.{facets-cell}
-use Rattle.regular_check.proofs.Reach.{reaches_is}
-use Rattle.regular_check.proofs.Spreading.{length-inside}
 use Rattle.regular_check.proofs.Distinct.{cell-In}
-use Rattle.number_lists.proofs.CallerLemmas.{distinct_rising}
 use Rattle.regular_check.proofs.Leasts.{path_on, path_back}
 use Rattle.regular_check.proofs.Rounds.{IsOther, first, second, meet_same, apart-distinct, cycle_goes}
 
@@ -223,5 +220,5 @@ one_cycle_goes_round space cell valid low high h =
         cycle_goes space edges
             (record { valid = valid; cell = is; ends = ends; twice = and-left (each_twice space 1 edges) (connected space 1 edges) e; one = and-right (each_twice space 1 edges) (connected space 1 edges) e }),
       ),
-      λ s. (let r = both_hold space edges s.0 is.some two s.1 is.rises in and-both (each_twice space 1 edges) (connected space 1 edges) r.0 r.1),
+      λ s. (let r = both_hold space edges s.0 is.some two s.1 is.rises in and_from (each_twice space 1 edges) (connected space 1 edges) r.0 r.1),
     )

@@ -1,32 +1,17 @@
 -- Numbers put into a list one after another are as many as there are in the increasing list of the same numbers.
-use Rattle.std.proofs.Common.{◌≡◌, ℕ, ◌+◌, ◌-◌, ◌<◌, ◌≤◌, List, [], ◌∷◌, ◌++◌, Bool, eqb, length, take, get_or, refl, ap, ◌∙◌, arith, inl, inr}
+use Rattle.std.proofs.Common.{◌≡◌, ℕ, ◌+◌, ◌-◌, ◌<◌, ◌≤◌, List, [], ◌∷◌, ◌++◌, Bool, eqb, length, take, get_or, ap, ◌∙◌, arith, inl, inr}
 use Rattle.std.specs.List.{IsDistinct, list_any, flat_map}
 use Rattle.std.specs.List.Sorted.{IsStrictlyIncreasing}
 use Rattle.std.proofs.lemmas.List.{take_more, append-nil}
 use Rattle.std.proofs.lemmas.List.Concat.{flat_map-append}
 use Rattle.std.proofs.lemmas.List.Kept.{IsStrictlyIncreasing-filter}
-use Rattle.face_poset.specs.Words.{upto, holds}
+use Rattle.number_lists.specs.Words.{upto, holds}
 use Rattle.face_poset.specs.Poset.{IsCell, IsSpace, count, facets_of}
 use Rattle.face_poset.specs.Below.{facets_of_all}
-use Rattle.number_lists.proofs.CallerLemmas.{increasing-upto, holds-upto, distinct_rising}
-use Rattle.regular_check.specs.Marks.{inserted, inserted_all}
-use Rattle.regular_check.proofs.Members.{In, here, there, In-filter, filter-In, any-In, any-some, holds-In, In-holds, In-at, In-left, In-right, append-In}
-use Rattle.regular_check.proofs.Inserted.{AreMore, are_more}
+use Rattle.number_lists.proofs.CallerLemmas.{increasing-upto, holds-upto, distinct_rising, In-filter, filter-In, any-In, any-some, holds-In, In-holds, In-at, AreMore, are_more, length-inside, inserted_all-append, flat_map-In, In-flat_map}
+use Rattle.number_lists.specs.Found.{inserted_all}
+use Rattle.number_lists.specs.Members.{In}
 use Rattle.regular_check.proofs.Cells.{facets-cell}
-use Rattle.regular_check.proofs.Spreading.{length-inside}
-
--- two lists, one after the other
-pub inserted_all-append : (found xs ys : List ℕ) → inserted_all found (xs ++ ys) ≡ inserted_all (inserted_all found xs) ys
-inserted_all-append found [] ys = refl
-inserted_all-append found (x ∷ xs) ys = inserted_all-append (inserted found x) xs ys
-
-pub flat_map-In : (f : ℕ → List ℕ) (cells : List ℕ) {y : ℕ} → In y (flat_map f cells) → (c : ℕ) × In c cells × In y (f c)
-flat_map-In f [] h = elim h [ ]
-flat_map-In f (c ∷ cs) h = elim (append-In (f c) (flat_map f cs) h) [ inl a ↦ (c, here, a) | inr b ↦ let r = flat_map-In f cs b in (r.0, there r.1, r.2) ]
-
-pub In-flat_map : (f : ℕ → List ℕ) {c y : ℕ} {cells : List ℕ} → In c cells → In y (f c) → In y (flat_map f cells)
-In-flat_map f (here {xs}) k = In-left (flat_map f xs) k
-In-flat_map f (there {y} {xs} h) k = In-right (f y) (In-flat_map f h k)
 
 -- a list of different numbers with the members of an increasing one is as long
 pub same_length : (xs ys : List ℕ) → IsDistinct eqb xs → IsStrictlyIncreasing ys → ((y : ℕ) → In y xs → In y ys) → ((y : ℕ) → In y ys → In y xs) → length xs ≡ length ys

@@ -4,12 +4,11 @@ use Rattle.std.specs.List.{list_any}
 use Rattle.std.proofs.lemmas.List.{length-append}
 use Rattle.std.proofs.lemmas.List.Elements.{filter-append}
 use Rattle.face_poset.specs.declared.cells.Cell.{Cell}
-use Rattle.face_poset.specs.Words.{holds}
+use Rattle.number_lists.specs.Words.{holds}
 use Rattle.face_poset.specs.Poset.{IsCell, IsSpace, count, facets_of}
 use Rattle.face_poset.specs.Below.{cell_at, facets_of_all}
-use Rattle.number_lists.proofs.CallerLemmas.{members_sorted}
+use Rattle.number_lists.proofs.CallerLemmas.{members_sorted, holds-In, In-at}
 use Rattle.regular_check.specs.Rules.{faces_count}
-use Rattle.regular_check.proofs.Members.{holds-In, In-at}
 use Rattle.regular_check.proofs.Cells.{facets-cell}
 
 -- whether a face has the dimension

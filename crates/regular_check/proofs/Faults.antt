@@ -3,7 +3,7 @@ use Rattle.std.proofs.Common.{◌≡◌, inl, inr, ℕ, zero, suc, ◌+◌, ◌<
 use Rattle.std.specs.List.{flat_map, range_with_len}
 use Rattle.std.proofs.lemmas.Bool.Decides.{eqb_tells}
 use Rattle.std.proofs.lemmas.List.Concat.{flat_map-cons}
-use Rattle.face_poset.specs.Words.{upto}
+use Rattle.number_lists.specs.Words.{upto}
 use Rattle.regular_check.specs.declared.fault.RegularFault.{RegularFault}
 use Rattle.regular_check.specs.declared.fault.RegularFault.TheVariants.{EdgeEnds, NotCycle, EdgeNotTwice, Apart, NotSphere, Memory}
 use Rattle.regular_check.specs.Rules.{Rule, fault_in, IsFault}

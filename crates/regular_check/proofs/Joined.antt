@@ -1,24 +1,14 @@
 -- Vertices that edges join.
-use Rattle.std.proofs.Common.{◌≡◌, inr, ℕ, ◌+◌, ◌<◌, ◌≤◌, List, ◌&&◌, get_or, arith}
+use Rattle.std.proofs.Common.{inr, ℕ, List, ◌&&◌, arith}
 use Rattle.std.specs.List.{flat_map}
-use Rattle.face_poset.specs.Words.{upto, holds}
+use Rattle.number_lists.specs.Words.{upto, holds}
 use Rattle.face_poset.specs.Poset.{IsCell, IsSpace, count, facets_of, cofaces_of}
-use Rattle.number_lists.proofs.CallerLemmas.{holds-upto, get_or-upto, length-upto}
+use Rattle.number_lists.proofs.CallerLemmas.{In-filter, In-inside, filter-In, any-In, any-some, holds-In, In-holds, In-at, and-left, and-right, flat_map-In, In-flat_map, upto-In, In-upto}
 use Rattle.regular_check.specs.Components.{vertices, share_edge}
-use Rattle.regular_check.proofs.Members.{In, In-filter, In-inside, filter-In, any-In, any-some, holds-In, In-holds, In-at, and-left, and-right, and-both}
+use Rattle.number_lists.specs.Members.{In}
+use Rattle.std.proofs.lemmas.Bool.{and_from}
 use Rattle.regular_check.proofs.Cells.{facets-cell}
-use Rattle.regular_check.proofs.Distinct.{flat_map-In, In-flat_map}
 use Rattle.regular_check.proofs.Spreading.{AreNexts}
-
-pub In-upto : (n x : ℕ) → 1 ≤ x → x ≤ n → In x (upto n)
-In-upto n x low high = holds-In (upto n) (holds-upto n x low high)
-
-pub upto-In : (n x : ℕ) → In x (upto n) → (1 ≤ x) × (x ≤ n)
-upto-In n x i =
-    let a = In-at i in
-    let l : a.0 < n = omega (arith, a.1, length-upto n) in
-    let e : get_or (upto n) a.0 0 ≡ a.0 + 1 = get_or-upto n a.0 l in
-    (omega (arith, e, a.2), omega (arith, e, a.2, l))
 
 -- the vertices of the edges at a vertex
 pub edge_nexts : (space : List (List (List ℕ))) (c : ℕ) → IsSpace space → In c (vertices space) → AreNexts (share_edge space) (vertices space) c (flat_map (facets_of space 1) (cofaces_of space 0 c))
@@ -27,7 +17,7 @@ edge_nexts space c h m =
       inside = λ y i. let r = flat_map-In (facets_of space 1) (cofaces_of space 0 c) i in ends_in r.0 y (edge r.0 r.1) r.2;
       steps = λ y i.
           let r = flat_map-In (facets_of space 1) (cofaces_of space 0 c) i in
-          any-In (λ e. holds (facets_of space 1 e) c && holds (facets_of space 1 e) y) (edge r.0 r.1) (and-both (holds (facets_of space 1 r.0) c) (holds (facets_of space 1 r.0) y) (filter-In (λ d. holds (facets_of space 1 d) c) (upto (count space 1)) r.1) (In-holds r.2));
+          any-In (λ e. holds (facets_of space 1 e) c && holds (facets_of space 1 e) y) (edge r.0 r.1) (and_from (holds (facets_of space 1 r.0) c) (holds (facets_of space 1 r.0) y) (filter-In (λ d. holds (facets_of space 1 d) c) (upto (count space 1)) r.1) (In-holds r.2));
       others = λ z n e.
           let s = any-some (λ d. holds (facets_of space 1 d) c && holds (facets_of space 1 d) z) (upto (count space 1)) e in
           inr (In-flat_map (facets_of space 1) (In-filter (λ d. holds (facets_of space 1 d) c) s.1 (and-left (holds (facets_of space 1 s.0) c) (holds (facets_of space 1 s.0) z) s.2)) (holds-In (facets_of space 1 s.0) (and-right (holds (facets_of space 1 s.0) c) (holds (facets_of space 1 s.0) z) s.2)));

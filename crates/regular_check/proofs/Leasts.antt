@@ -5,16 +5,13 @@ use Rattle.std.proofs.lemmas.Bool.{eq-eqb, cases_lt}
 use Rattle.std.proofs.lemmas.List.{length-append}
 use Rattle.std.proofs.lemmas.List.Elements.{filter-append}
 use Rattle.std.proofs.lemmas.List.Kept.{IsStrictlyIncreasing-filter}
-use Rattle.face_poset.specs.Words.{upto, holds}
+use Rattle.number_lists.specs.Words.{upto, holds}
 use Rattle.face_poset.specs.Poset.{count, facets_of}
-use Rattle.number_lists.proofs.CallerLemmas.{upto_more, increasing-upto, filter_same}
-use Rattle.regular_check.specs.Reach.{Reaches, at_start, on}
+use Rattle.number_lists.proofs.CallerLemmas.{upto_more, increasing-upto, filter_same, In-filter, In-inside, filter-In, In-holds, at-In, In-at, same_bool, reaches_is, In-upto, upto-In}
+use Rattle.number_lists.specs.Reach.{Reaches, at_start, on}
 use Rattle.regular_check.specs.Components.{vertices, share_edge, are_joined, least_of, is_least, leasts_upto, component_of, SameComponentIsAPath}
-use Rattle.regular_check.proofs.Members.{In, In-filter, In-inside, filter-In, In-holds, at-In, In-at}
-use Rattle.regular_check.proofs.Passing.{same_bool}
-use Rattle.regular_check.proofs.Reach.{reaches_is}
+use Rattle.number_lists.specs.Members.{In}
 use Rattle.regular_check.proofs.Walking.{low_least}
-use Rattle.regular_check.proofs.Joined.{In-upto, upto-In}
 
 -- ---- paths
 

@@ -1,24 +1,20 @@
-pub mod Members
-pub mod Reach
-pub mod MarkLemmas
-pub mod Touch
-pub mod Cells
-pub mod Tallies
-pub mod Passing
-pub mod Inserted
-pub mod Spreading
-pub mod Distinct
-pub mod FaceCounts
-pub mod Searching
-pub mod Faults
-pub mod Walking
-pub mod Joined
-pub mod Leasts
-pub mod Numbered
-pub mod Parts
-pub mod RegularParts
-pub mod Rounds
-pub mod Circuits
-pub mod NumbersTaken
-pub mod Transfer
-pub mod Examples
+pub mod CallerLemmas
+mod Cells
+mod Tallies
+mod Passing
+mod Spreading
+mod Distinct
+mod FaceCounts
+mod Searching
+mod Faults
+mod Walking
+mod Joined
+mod Leasts
+mod Numbered
+mod Parts
+mod RegularParts
+mod Rounds
+mod Circuits
+mod NumbersTaken
+mod Transfer
+mod Examples

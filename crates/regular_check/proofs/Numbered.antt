@@ -3,12 +3,11 @@ use Rattle.std.proofs.Common.{◌≡◌, ◌≢◌, inl, inr, ℕ, ◌+◌, ◌<
 use Rattle.std.proofs.lemmas.Bool.{false≢true, eq-eqb, cases_lt, ne_eqb}
 use Rattle.std.proofs.lemmas.List.{same_lists, get_or_default, get_or-replicate, length-replicate}
 use Rattle.std.proofs.lemmas.List.FromFn.{length-map-range_with_len, get_or-map-range_with_len}
-use Rattle.face_poset.specs.Words.{upto, holds}
+use Rattle.number_lists.specs.Words.{upto, holds}
 use Rattle.face_poset.specs.Poset.{count}
-use Rattle.number_lists.proofs.CallerLemmas.{length-upto, length-filter-le}
+use Rattle.number_lists.proofs.CallerLemmas.{length-upto, length-filter-le, In-upto, upto-In}
 use Rattle.regular_check.specs.Components.{vertices, are_joined, least_of, is_least, leasts_upto, component_of, component_count}
-use Rattle.regular_check.proofs.Members.{In}
-use Rattle.regular_check.proofs.Joined.{In-upto, upto-In}
+use Rattle.number_lists.specs.Members.{In}
 use Rattle.regular_check.proofs.Leasts.{passing-more, path_least, path_joined, joined_path, is_least_of, least_again, component_low}
 
 module _ (space : List (List (List ℕ))) where

@@ -2,9 +2,9 @@
 use Rattle.std.proofs.Common.{◌≡◌, inl, inr, ℕ, zero, suc, ◌+◌, ◌-◌, ◌<◌, ◌≤◌, List, Bool, true, false, cond, refl, ap, sym, ◌∙◌, subst, arith}
 use Rattle.std.proofs.lemmas.Bool.{eqb-true, cases_lt}
 use Rattle.face_poset.specs.Poset.{count}
-use Rattle.regular_check.specs.Components.{vertices, share_edge, least_of, is_least, leasts_upto, component_of, component_count, IsLeastVertex, AreNumbers, ComponentsAreNumbered}
-use Rattle.regular_check.proofs.Members.{In, holds-In, In-holds}
-use Rattle.regular_check.proofs.Joined.{In-upto, upto-In}
+use Rattle.regular_check.specs.Components.{vertices, share_edge, least_of, is_least, leasts_upto, component_of, component_count, IsLeastVertex, ComponentsAreNumbered}
+use Rattle.number_lists.specs.Members.{In}
+use Rattle.number_lists.proofs.CallerLemmas.{holds-In, In-holds, In-upto, upto-In}
 use Rattle.regular_check.proofs.Leasts.{passing, passing-more, passing-le, passing-lt, path_in, path_back, path_least, shared, is_least_of, component_low, least_passes}
 
 passing-rises : (p : ℕ → Bool) (a b : ℕ) → a ≤ b → passing p a ≤ passing p b

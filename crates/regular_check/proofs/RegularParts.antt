@@ -1,13 +1,13 @@
 -- The rules of a regular space, one by one.
-use Rattle.std.proofs.Common.{◌≡◌, ℕ, ◌≤◌, List, [], ◌∷◌, ◌++◌, length, true, None, sym, ◌∙◌, refl, arith}
+use Rattle.std.proofs.Common.{◌≡◌, ℕ, ◌≤◌, List, [], ◌∷◌, ◌++◌, length, true, None, sym, ◌∙◌, arith}
 use Rattle.std.specs.List.{flat_map}
 use Rattle.std.proofs.lemmas.Bool.{eqb-true}
-use Rattle.face_poset.specs.Words.{upto}
+use Rattle.number_lists.specs.Words.{upto}
 use Rattle.face_poset.specs.Poset.{count, facets_of}
 use Rattle.regular_check.specs.declared.fault.RegularFault.TheVariants.{EdgeEnds, NotCycle, EdgeNotTwice, Apart, NotSphere}
 use Rattle.regular_check.specs.Rules.{Rule, rule, two_ends, one_cycle, each_twice, connected, is_spherical, boundary_euler, edge_rules, disk_rules, solid_rules, fault_in, IsRegular}
 use Rattle.regular_check.specs.Cycle.{HasEnds}
-use Rattle.regular_check.proofs.Members.{and-left, and-right}
+use Rattle.number_lists.proofs.CallerLemmas.{and-left, and-right}
 use Rattle.regular_check.proofs.Faults.{head_kept, kept_holds, none_before, none_each, none_parts, layer_none}
 
 -- where no edge has a fault, each has two ends

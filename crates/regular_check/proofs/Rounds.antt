@@ -8,20 +8,17 @@ use Rattle.std.proofs.lemmas.List.{same_lists, get_or-map, length-map}
 use Rattle.std.proofs.lemmas.List.FromFn.{length-map-range_with_len, get_or-map-range_with_len, map-range_with_len_more}
 use Rattle.std.proofs.lemmas.List.Kept.{IsStrictlyIncreasing-filter}
 use Rattle.std.proofs.lemmas.Map.Keys.{IsDistinct-from_apart}
-use Rattle.face_poset.specs.Words.{holds}
+use Rattle.number_lists.specs.Words.{holds}
 use Rattle.face_poset.specs.Poset.{IsCell, IsSpace, count, facets_of}
 use Rattle.face_poset.specs.Below.{facets_of_all}
-use Rattle.number_lists.proofs.CallerLemmas.{distinct_rising}
+use Rattle.number_lists.proofs.CallerLemmas.{distinct_rising, In-filter, In-inside, filter-In, any-In, any-some, all-In, holds-In, In-holds, In-at, at-In, same_bool, reaches_is, length-inside}
 use Rattle.regular_check.specs.declared.cycles.Step.{Step}
-use Rattle.regular_check.specs.Reach.{reaches, Reaches, at_start, on}
+use Rattle.number_lists.specs.Reach.{reaches, Reaches, at_start, on}
 use Rattle.regular_check.specs.Rules.{sharing, meet, each_twice, connected}
 use Rattle.regular_check.specs.Cycle.{start_of, end_of, step_from, edge_at, other_edge, walk, least_vertex, cycle_along, GoesRound}
-use Rattle.regular_check.proofs.Members.{In, here, there, In-filter, In-inside, filter-In, any-In, any-some, all-In, holds-In, In-holds, In-at, at-In}
-use Rattle.regular_check.proofs.Passing.{same_bool}
+use Rattle.number_lists.specs.Members.{In, here, there}
 use Rattle.regular_check.proofs.Cells.{facets-cell}
-use Rattle.regular_check.proofs.Reach.{reaches_is}
 use Rattle.regular_check.proofs.Searching.{two_sharing, sum_two}
-use Rattle.regular_check.proofs.Spreading.{length-inside}
 use Rattle.regular_check.proofs.Distinct.{cell-In, In-all_facets, all_facets-In}
 use Rattle.regular_check.proofs.Leasts.{path_on, path_back}
 use Rattle.regular_check.proofs.Walking.{other_first}

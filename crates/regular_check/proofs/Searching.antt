@@ -2,13 +2,14 @@
 use Rattle.std.proofs.Common.{◌≡◌, ◌⊎◌, inl, inr, ℕ, ◌+◌, ◌-◌, ◌≤◌, List, [], ◌∷◌, Bool, true, ◌&&◌, eqb, map, length, get_or, refl, ap, sym, ◌∙◌, subst, arith}
 use Rattle.std.specs.List.{list_all, sum}
 use Rattle.std.proofs.lemmas.Bool.{eqb-true}
-use Rattle.face_poset.specs.Words.{holds}
+use Rattle.number_lists.specs.Words.{holds}
 use Rattle.face_poset.specs.Poset.{IsCell, IsSpace, count, facets_of}
 use Rattle.regular_check.specs.declared.tally.Tally.{Tally}
-use Rattle.regular_check.specs.Reach.{reaches}
+use Rattle.number_lists.specs.Reach.{reaches}
 use Rattle.regular_check.specs.Rules.{sharing, meet, each_twice, connected}
 use Rattle.regular_check.specs.Tally.{tally_at, IsTally, AreOthers, other}
-use Rattle.regular_check.proofs.Members.{In, here, there, In-filter, filter-In, In-inside, any-In, any-some, all-In, In-holds, In-at, at-In}
+use Rattle.number_lists.specs.Members.{In, here, there}
+use Rattle.number_lists.proofs.CallerLemmas.{In-filter, filter-In, In-inside, any-In, any-some, all-In, In-holds, In-at, at-In}
 use Rattle.regular_check.proofs.Cells.{facets-cell}
 use Rattle.regular_check.proofs.Spreading.{AreNexts}
 

@@ -1,21 +1,12 @@
 -- A search from one number by steps inside a list: what was found, of which the first were looked at.
 use Rattle.std.proofs.Common.{◌≡◌, ◌⊎◌, inl, inr, ℕ, ◌+◌, ◌<◌, ◌≤◌, refl, List, [], ◌∷◌, Bool, true, eqb, length, get_or, ap, sym, ◌∙◌, subst, arith, rules}
 use Rattle.std.specs.List.{IsDistinct}
-use Rattle.std.proofs.lemmas.Cmp.{nat_eq_equiv}
 use Rattle.std.proofs.lemmas.Bool.Decides.{eqb_tells}
-use Rattle.std.proofs.lemmas.Map.Made.{length-le_from_is_member}
-use Rattle.face_poset.specs.Words.{holds}
-use Rattle.regular_check.specs.Reach.{reaches, Reaches, at_start, on}
-use Rattle.regular_check.specs.Marks.{inserted_all}
-use Rattle.regular_check.proofs.Members.{In, here, there, holds-In, In-holds, In-at, at-In}
-use Rattle.regular_check.proofs.MarkLemmas.{any-holds}
-use Rattle.regular_check.proofs.Passing.{same_bool}
-use Rattle.regular_check.proofs.Reach.{reaches_is}
-use Rattle.regular_check.proofs.Inserted.{AreMore, are_more}
-
--- of lists of different numbers the one that is inside the other is no longer
-pub length-inside : (xs ys : List ℕ) → IsDistinct eqb xs → ((y : ℕ) → In y xs → In y ys) → length xs ≤ length ys
-length-inside xs ys d h = length-le_from_is_member nat_eq_equiv xs ys d (λ q e. any-holds ys q ∙ In-holds (h q (holds-In xs (sym (any-holds xs q) ∙ e))))
+use Rattle.number_lists.specs.Words.{holds}
+use Rattle.number_lists.specs.Reach.{reaches, Reaches, at_start, on}
+use Rattle.number_lists.specs.Found.{inserted_all}
+use Rattle.number_lists.specs.Members.{In, here, there}
+use Rattle.number_lists.proofs.CallerLemmas.{holds-In, In-holds, In-at, at-In, same_bool, reaches_is, AreMore, are_more, length-inside}
 
 module _ (step : ℕ → ℕ → Bool) (all : List ℕ) where
   -- these are the numbers one step from c; c itself may be left out

@@ -6,12 +6,13 @@ use Rattle.std.proofs.lemmas.List.{take_more, take_all, length-append, length-ta
 use Rattle.std.proofs.lemmas.List.Elements.{filter-append}
 use Rattle.std.proofs.lemmas.List.Folds.{list_any_more}
 use Rattle.std.proofs.lemmas.List.Sums.{sum_by-cons, sum_by_push}
-use Rattle.face_poset.specs.Words.{holds}
+use Rattle.number_lists.specs.Words.{holds}
 use Rattle.face_poset.specs.Poset.{IsCell, facets_of}
 use Rattle.regular_check.specs.declared.tally.Tally.{Tally}
 use Rattle.regular_check.specs.Rules.{sharing}
 use Rattle.regular_check.specs.Tally.{none, tally_at, tally_of, gained, AllGain, AllClear, IsTally, IsBlank, IsModest, all_double}
-use Rattle.regular_check.proofs.Members.{In, here, there, In-at}
+use Rattle.number_lists.specs.Members.{In, here, there}
+use Rattle.number_lists.proofs.CallerLemmas.{In-at}
 use Rattle.regular_check.proofs.Cells.{short}
 
 -- a cell more

@@ -1,23 +1,20 @@
 -- A space in which each cell looks like a cell of a regular space is regular.
-use Rattle.std.proofs.Common.{◌≡◌, ℕ, zero, suc, ◌+◌, ◌-◌, ◌<◌, ◌≤◌, List, [], ◌∷◌, ◌++◌, Bool, true, None, eqb, filter, map, length, get_or, refl, ap, sym, ◌∙◌, subst, arith}
-use Rattle.std.specs.List.{IsDistinct, list_all, list_any, flat_map}
+use Rattle.std.proofs.Common.{◌≡◌, ℕ, suc, ◌+◌, ◌-◌, ◌<◌, ◌≤◌, List, [], ◌∷◌, Bool, true, eqb, map, length, get_or, refl, ap, sym, ◌∙◌, subst, arith}
+use Rattle.std.specs.List.{IsDistinct, list_all, list_any}
 use Rattle.std.specs.List.Sorted.{IsStrictlyIncreasing}
-use Rattle.std.proofs.lemmas.Bool.{eqb-true, eq-eqb, false≢true, ne_eqb}
-use Rattle.std.proofs.lemmas.List.{length-map, get_or-map, get_or_default}
+use Rattle.std.proofs.lemmas.Bool.{eqb-true, eq-eqb, ne_eqb, and_from}
+use Rattle.std.proofs.lemmas.List.{length-map, get_or-map}
 use Rattle.std.proofs.lemmas.List.Kept.{IsStrictlyIncreasing-filter, AllPairs-from_increasing}
 use Rattle.std.proofs.lemmas.Map.Keys.{IsDistinct-from_apart}
-use Rattle.face_poset.specs.Words.{upto, holds}
-use Rattle.face_poset.specs.Poset.{IsCell, IsSpace, count, facets_of}
+use Rattle.number_lists.specs.Words.{upto, holds}
+use Rattle.face_poset.specs.Poset.{IsSpace, count, facets_of}
 use Rattle.face_poset.specs.Below.{facets_of_all}
-use Rattle.number_lists.proofs.CallerLemmas.{distinct_rising, increasing-upto}
-use Rattle.regular_check.specs.Reach.{reaches, Reaches, at_start, on}
+use Rattle.number_lists.proofs.CallerLemmas.{distinct_rising, increasing-upto, In-filter, In-inside, filter-In, any-In, any-some, all-In, In-all, holds-In, In-holds, In-at, at-In, same_bool, reaches_is, length-inside}
+use Rattle.number_lists.specs.Reach.{reaches, Reaches, at_start, on}
 use Rattle.regular_check.specs.Rules.{two_ends, one_cycle, sharing, meet, each_twice, connected, faces_count, is_spherical, IsRegular}
-use Rattle.regular_check.proofs.Members.{In, here, there, In-filter, In-inside, filter-In, any-In, any-some, all-In, In-all, holds-In, In-holds, In-at, at-In, and-both}
-use Rattle.regular_check.proofs.Passing.{same_bool}
+use Rattle.number_lists.specs.Members.{In, here, there}
 use Rattle.regular_check.proofs.Cells.{facets-cell}
-use Rattle.regular_check.proofs.Reach.{reaches_is}
-use Rattle.regular_check.proofs.Spreading.{length-inside}
-use Rattle.regular_check.proofs.Distinct.{In-all_facets, all_facets-In, cell-In}
+use Rattle.regular_check.proofs.Distinct.{In-all_facets, all_facets-In}
 use Rattle.regular_check.proofs.Leasts.{path_on, path_back}
 use Rattle.regular_check.proofs.FaceCounts.{HasFaces, has_faces}
 use Rattle.regular_check.proofs.RegularParts.{edges_kept, disks_kept, solids_kept, regular_parts}
@@ -196,7 +193,7 @@ module _ (space other : List (List (List ℕ))) (part : ℕ → ℕ → Type 0) 
         let w = h.cell 2 c p in
         let k = disks_kept space (regular_parts space regular).1 c w.0 w.1 in
         let i : AreImages 1 (facets_of space 2 c) (facets_of other 2 (φ 2 c)) = facets_images 1 c p in
-        and-both (each_twice other 1 (facets_of other 2 (φ 2 c))) (connected other 1 (facets_of other 2 (φ 2 c))) (twice_images 0 (facets_of space 2 c) (facets_of other 2 (φ 2 c)) i k.0)
+        and_from (each_twice other 1 (facets_of other 2 (φ 2 c))) (connected other 1 (facets_of other 2 (φ 2 c))) (twice_images 0 (facets_of space 2 c) (facets_of other 2 (φ 2 c)) i k.0)
         (connected_images 0 (facets_of space 2 c) (facets_of other 2 (φ 2 c)) i (some_facet 1 c p) k.1)
 
     pub solid_copied : (c : ℕ) → part 3 c → (each_twice other 2 (facets_of other 3 (φ 3 c)) ≡ true) × (connected other 2 (facets_of other 3 (φ 3 c)) ≡ true) × (is_spherical other (φ 3 c) ≡ true)

@@ -2,19 +2,18 @@
 use Rattle.std.proofs.Common.{◌≡◌, ℕ, zero, suc, ◌+◌, ◌-◌, ◌<◌, ◌≤◌, List, [], ◌∷◌, ◌++◌, Bool, true, false, not, cond, eqb, filter, length, get_or, refl, ap, sym, ◌∙◌, subst, arith}
 use Rattle.std.specs.List.{list_any, sum}
 use Rattle.std.specs.List.Sorted.{IsStrictlyIncreasing}
-use Rattle.std.proofs.lemmas.Bool.{eq-eqb, ne_eqb}
+use Rattle.std.proofs.lemmas.Bool.{eq-eqb, ne_eqb, false_from_ne_true}
 use Rattle.std.proofs.lemmas.List.{append_assoc}
 use Rattle.std.proofs.lemmas.List.Kept.{IsStrictlyIncreasing-filter, AllPairs-from_increasing}
-use Rattle.face_poset.specs.Words.{upto, holds}
+use Rattle.number_lists.specs.Words.{upto, holds}
 use Rattle.face_poset.specs.Poset.{IsCell, count, facets_of}
-use Rattle.number_lists.proofs.CallerLemmas.{get_or-upto, length-upto}
+use Rattle.number_lists.proofs.CallerLemmas.{get_or-upto, length-upto, filter-In, any-In, any-some, holds-In, In-holds, In-at, at-In}
 use Rattle.regular_check.specs.declared.cycles.Step.{Step}
 use Rattle.regular_check.specs.declared.tally.Tally.{Tally}
 use Rattle.regular_check.specs.Rules.{sharing}
 use Rattle.regular_check.specs.Tally.{other}
 use Rattle.regular_check.specs.Cycle.{end_of, step_from, edge_at, other_edge, walk, least_vertex, cycle_along, IsFirstEdge, HasEnds}
-use Rattle.regular_check.proofs.Members.{In, here, there, filter-In, any-In, any-some, holds-In, In-holds, In-at, at-In}
-use Rattle.regular_check.proofs.Passing.{not_true}
+use Rattle.number_lists.specs.Members.{In, here, there}
 use Rattle.regular_check.proofs.Cells.{facets-cell}
 use Rattle.regular_check.proofs.Searching.{IsReady, cell_low, pair, shares, sum_is, across_in, across_cell, sum_two}
 
@@ -78,7 +77,7 @@ module _ (space : List (List (List ℕ))) (edges : List ℕ) (tallies : List Tal
         (ap p at ∙ any-In (λ c. holds (facets_of space 1 c) v) member (In-holds has))
         (λ j l.
         let to : get_or (upto (count space 0)) j 0 ≡ j + 1 = get_or-upto (count space 0) j (omega (arith, l, w.0, w.1)) in
-        not_true (p (get_or (upto (count space 0)) j 0))
+        false_from_ne_true (p (get_or (upto (count space 0)) j 0))
         (λ e. let s = any-some (λ c. holds (facets_of space 1 c) (get_or (upto (count space 0)) j 0)) edges e in omega (arith, smaller s.0 (get_or (upto (count space 0)) j 0) s.1 (holds-In (facets_of space 1 s.0) s.2), to, l)))
         ∙ at
 
@@ -90,7 +89,7 @@ module _ (space : List (List (List ℕ))) (edges : List ℕ) (tallies : List Tal
         (ap (λ (x : ℕ). holds (facets_of space 1 x) v) f.here ∙ In-holds has)
         (λ j l.
         let i : In (get_or edges j 0) edges = at-In edges j 0 (omega (arith, l, f.within)) in
-        not_true (holds (facets_of space 1 (get_or edges j 0)) v)
+        false_from_ne_true (holds (facets_of space 1 (get_or edges j 0)) v)
         (λ e. omega (arith, low_least (facets_of space 1 (get_or edges j 0)) v (edge_facets h (get_or edges j 0) i).rises (holds-In (facets_of space 1 (get_or edges j 0)) e), f.before j l)))
         ∙ f.here
 

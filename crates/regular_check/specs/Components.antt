@@ -17,9 +17,9 @@
 --   ComponentsAreNumbered              so it is in any space
 use Rattle.std.specs.Prelude.{◌≡◌, ◌↔◌, ℕ, ◌≤◌, ◌<◌, ◌==◌, ◌&&◌, List, length, filter, map, slice_index, Bool}
 use Rattle.std.specs.List.{list_any}
-use Rattle.face_poset.specs.Words.{upto, holds}
+use Rattle.number_lists.specs.Words.{upto, holds}
 use Rattle.face_poset.specs.Poset.{count, facets_of}
-use Rattle.regular_check.specs.Reach.{reaches, Reaches}
+use Rattle.number_lists.specs.Reach.{reaches, Reaches}
 
 abbrev pub vertices : List (List (List ℕ)) → List ℕ
 vertices space = upto (count space 0)

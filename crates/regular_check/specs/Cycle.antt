@@ -21,7 +21,7 @@
 --                                        of those with that vertex it is the first
 use Rattle.std.specs.Prelude.{◌≡◌, ◌≢◌, ◌↔◌, ℕ, zero, suc, ◌+◌, ◌-◌, ◌≤◌, ◌<◌, ◌==◌, List, [], ◌∷◌, ◌++◌, length, cond, filter, not, map, slice_index, take, drop, AllPairs, Bool, true}
 use Rattle.std.specs.List.{list_all}
-use Rattle.face_poset.specs.Words.{holds}
+use Rattle.number_lists.specs.Words.{holds}
 use Rattle.face_poset.specs.Poset.{count, facets_of, IsSpace}
 use Rattle.face_poset.specs.Below.{facets_of_all}
 use Rattle.regular_check.specs.declared.cycles.Step.{Step}

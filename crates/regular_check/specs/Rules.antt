@@ -25,12 +25,12 @@
 use Rattle.std.specs.Prelude.{◌≡◌, ⊤, ℕ, ◌+◌, ◌&&◌, ◌==◌, List, [], ◌∷◌, ◌++◌, length, filter, find, slice_index, Bool, not, ℤ, pos, ◌+ℤ◌, ◌-ℤ◌, option_map, Option, Some, None}
 use Rattle.std.specs.List.{list_all, list_any, flat_map}
 use Rattle.face_poset.specs.declared.cells.Cell.{Cell}
-use Rattle.face_poset.specs.Words.{upto, holds}
+use Rattle.number_lists.specs.Words.{upto, holds}
 use Rattle.face_poset.specs.Poset.{count, facets_of}
 use Rattle.face_poset.specs.Below.{closed_cell}
 use Rattle.regular_check.specs.declared.fault.RegularFault.{RegularFault}
 use Rattle.regular_check.specs.declared.fault.RegularFault.TheVariants.{EdgeEnds, NotCycle, EdgeNotTwice, Apart, NotSphere, Memory}
-use Rattle.regular_check.specs.Reach.{reaches}
+use Rattle.number_lists.specs.Reach.{reaches}
 
 abbrev pub sharing : List (List (List ℕ)) → (dim : ℕ) → (cells : List ℕ) → (facet : ℕ) → List ℕ
 sharing space dim cells facet = filter (λ c. holds (facets_of space dim c) facet) cells

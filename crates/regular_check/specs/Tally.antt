@@ -15,7 +15,7 @@
 --   AreOthers tallies facets cell most  across each of these facets of the cell there is another cell, at most `most`
 use Rattle.std.specs.Prelude.{◌≡◌, ℕ, ◌+◌, ◌-◌, ◌<◌, ◌^◌, ◌==◌, ◌≤◌, All, List, length, cond, slice_index_or, Bool}
 use Rattle.std.specs.List.{list_all, sum}
-use Rattle.face_poset.specs.Words.{holds}
+use Rattle.number_lists.specs.Words.{holds}
 use Rattle.regular_check.specs.declared.tally.Tally.{Tally}
 use Rattle.regular_check.specs.Rules.{sharing}
 

@@ -3,16 +3,16 @@ ghost use Rattle.std.specs.Prelude.{◌≡◌, ◌≤◌, length, IfOk};
 ghost use Rattle.face_poset.specs.Below.{facets_of_all};
 ghost use Rattle.face_poset.specs.Poset.{IsCell, IsSpace, count};
 
-use crate::marks::Marks;
 use crate::search::insert_facets;
 use face_poset::{Graded, Space};
+use number_lists::FoundNumbers;
 use std::alloc::AllocError;
 
 /// How many edges these 2-cells have, each edge counted once.
 pub(crate) fn count_edges(
     space: &Space,
     disks: &[u32],
-    found: &mut Marks,
+    found: &mut FoundNumbers,
 ) -> Result<u32, AllocError>
     requires valid { IsSpace space.now }
     requires disks { IsCell (count space.now 2) disks.now }
@@ -29,7 +29,7 @@ pub(crate) fn count_edges(
 pub(crate) fn count_vertices(
     space: &Space,
     disks: &[u32],
-    found: &mut Marks,
+    found: &mut FoundNumbers,
 ) -> Result<u32, AllocError>
     requires valid { IsSpace space.now }
     requires disks { IsCell (count space.now 2) disks.now }

@@ -1,12 +1,12 @@
 // The connected components of a space.
 ghost use Rattle.std.specs.Prelude.{◌≡◌, ℕ, ◌-◌, ◌≤◌, length, slice_index, IfOk, OnOk};
-ghost use Rattle.face_poset.specs.Words.{holds};
+ghost use Rattle.number_lists.specs.Words.{holds};
 ghost use Rattle.face_poset.specs.Poset.{count};
 ghost use Rattle.regular_check.specs.Components.{are_joined, components_of};
 
-use crate::marks::Marks;
 use crate::search::insert_facets;
 use face_poset::{Graded, Space};
+use number_lists::FoundNumbers;
 use std::alloc::{AllocError, Global};
 use std::marker::Model;
 
@@ -44,31 +44,12 @@ impl Components {
     }
 }
 
-/// Finds the vertices to which edges lead from this one.
-fn find_joined(space: &Space, start: u32, found: &mut Marks) -> Result<(), AllocError>
-    requires first { 1 ≤ start }
-    requires last { start ≤ count space.now 0 }
-    requires most { found.old.most ≡ count space.now 0 }
-    ensures most { found.new.most ≡ found.old.most }
-    ensures found { OnOk result ((v : ℕ) → holds found.new.numbers v ≡ are_joined space.now start v) }
-{
-    found.clear();
-    found.insert(start)?;
-    let mut head = 0;
-    while head < found.len() {
-        let edges = space.cofaces(0, found.get(head));
-        insert_facets(space, 1, edges, found)?;
-        head += 1;
-    }
-    Ok(())
-}
-
 /// Finds the components of the space.
 pub(crate) fn find_components(alloc: Global, space: &Space) -> Result<Components, AllocError>
     ensures { IfOk result (λ components. components ≡ components_of space.now) }
 {
     let most = space.cells(0) as usize;
-    let mut found = Marks::new(alloc, most)?;
+    let mut found = FoundNumbers::new(alloc, most)?;
     let mut numbers = vec![in alloc; 0u32; most]?;
     let mut count = 0;
     for index in 0..space.cells(0) {
@@ -79,4 +60,23 @@ pub(crate) fn find_components(alloc: Global, space: &Space) -> Result<Components
         }
     }
     Ok(Components { count, numbers })
+}
+
+/// Finds the vertices to which edges lead from this one.
+fn find_joined(space: &Space, start: u32, found: &mut FoundNumbers) -> Result<(), AllocError>
+    requires first { 1 ≤ start }
+    requires last { start ≤ count space.now 0 }
+    requires most { found.old.most ≡ count space.now 0 }
+    ensures most { found.new.most ≡ found.old.most }
+    ensures found { OnOk result ((v : ℕ) → holds found.new.found v ≡ are_joined space.now start v) }
+{
+    found.clear();
+    found.insert(start)?;
+    let mut head = 0;
+    while head < found.len() {
+        let edges = space.cofaces(0, found.get(head));
+        insert_facets(space, 1, edges, found)?;
+        head += 1;
+    }
+    Ok(())
 }

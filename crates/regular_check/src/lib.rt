@@ -9,7 +9,6 @@ mod components;
 mod cycles;
 mod fault;
 mod laws;
-mod marks;
 mod regular;
 mod rules;
 mod search;
@@ -19,7 +18,6 @@ pub use components::Components;
 pub use cycles::Step;
 pub use fault::RegularFault;
 pub use laws::{
-    components_are_numbered, cycles_go_round, one_cycle_goes_round,
-    rounds_reach_what_steps_lead_to, same_component_is_a_path,
+    components_are_numbered, cycles_go_round, one_cycle_goes_round, same_component_is_a_path,
 };
 pub use regular::{Regular, check};

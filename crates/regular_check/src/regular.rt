@@ -7,10 +7,10 @@ ghost use Rattle.regular_check.specs.Components.{components_of};
 use crate::components::{Components, find_components};
 use crate::cycles::{Cycles, Step, all_cycles};
 use crate::fault::RegularFault;
-use crate::marks::Marks;
 use crate::rules::{check_disks, check_edges, check_solids};
 use crate::tally::NONE;
 use face_poset::{Graded, Space};
+use number_lists::FoundNumbers;
 use std::alloc::{AllocError, Global};
 use std::marker::Model;
 
@@ -80,7 +80,7 @@ pub fn check<'a>(alloc: Global, space: &'a Space) -> Result<Regular<'a>, Regular
     check_edges(space)?;
     let most = vertices + edges + disks;
     let mut tallies = vec![in alloc; NONE; most]?;
-    let mut found = Marks::new(alloc, most)?;
+    let mut found = FoundNumbers::new(alloc, most)?;
     check_disks(space, &mut tallies, &mut found)?;
     check_solids(space, &mut tallies, &mut found)?;
     let cycles = all_cycles(alloc, space, &mut tallies)?;

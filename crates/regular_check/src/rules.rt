@@ -1,17 +1,17 @@
 // The rules of a regular space, cell by cell.
 ghost use Rattle.std.specs.Prelude.{◌≡◌, ◌≢◌, ◌≤◌, ◌+◌, length, None, IfErr, OnOk, MatchResult, pos, ◌+ℤ◌, ◌-ℤ◌};
 ghost use Rattle.std.specs.List.{flat_map};
-ghost use Rattle.face_poset.specs.Words.{upto};
+ghost use Rattle.number_lists.specs.Words.{upto};
 ghost use Rattle.face_poset.specs.Poset.{count};
 ghost use Rattle.regular_check.specs.Rules.{edge_rules, disk_rules, solid_rules, fault_in, IsFault};
 ghost use Rattle.regular_check.specs.Tally.{IsBlank};
 
 use crate::boundary::{count_edges, count_vertices};
 use crate::fault::RegularFault;
-use crate::marks::Marks;
 use crate::search::shape_of;
 use crate::tally::Tally;
 use face_poset::{Graded, Space};
+use number_lists::FoundNumbers;
 
 /// Finds the first edge without two ends.
 pub(crate) fn check_edges(space: &Space) -> Result<(), RegularFault>
@@ -29,7 +29,7 @@ pub(crate) fn check_edges(space: &Space) -> Result<(), RegularFault>
 pub(crate) fn check_disks(
     space: &Space,
     tallies: &mut [Tally],
-    found: &mut Marks,
+    found: &mut FoundNumbers,
 ) -> Result<(), RegularFault>
     requires room { count space.now 0 ≤ length tallies.old }
     requires most { count space.now 1 ≤ found.old.most }
@@ -47,12 +47,31 @@ pub(crate) fn check_disks(
     Ok(())
 }
 
+/// Finds the first fault of the boundaries of 3-cells.
+pub(crate) fn check_solids(
+    space: &Space,
+    tallies: &mut [Tally],
+    found: &mut FoundNumbers,
+) -> Result<(), RegularFault>
+    requires room { count space.now 1 ≤ length tallies.old }
+    requires most { count space.now 0 + count space.now 1 + count space.now 2 ≤ found.old.most }
+    requires blank { IsBlank tallies.old }
+    ensures most { found.new.most ≡ found.old.most }
+    ensures blank { OnOk result (IsBlank tallies.new) }
+    ensures fault { MatchResult result (λ _. fault_in (flat_map (solid_rules space.now) (upto (count space.now 3))) ≡ None) (IsFault (fault_in (flat_map (solid_rules space.now) (upto (count space.now 3))))) }
+{
+    for index in 0..space.cells(3) {
+        check_solid(space, index + 1, tallies, found)?;
+    }
+    Ok(())
+}
+
 /// Finds a fault of the boundary of a 3-cell.
 fn check_solid(
     space: &Space,
     cell: u32,
     tallies: &mut [Tally],
-    found: &mut Marks,
+    found: &mut FoundNumbers,
 ) -> Result<(), RegularFault>
     requires first { 1 ≤ cell }
     requires last { cell ≤ count space.now 3 }
@@ -96,23 +115,4 @@ fn no_sphere(cell: u32, vertices: u32, edges: u32, disks: u32) -> RegularFault
 {
     let value = i64::from(vertices) - i64::from(edges) + i64::from(disks);
     RegularFault::NotSphere(cell, value)
-}
-
-/// Finds the first fault of the boundaries of 3-cells.
-pub(crate) fn check_solids(
-    space: &Space,
-    tallies: &mut [Tally],
-    found: &mut Marks,
-) -> Result<(), RegularFault>
-    requires room { count space.now 1 ≤ length tallies.old }
-    requires most { count space.now 0 + count space.now 1 + count space.now 2 ≤ found.old.most }
-    requires blank { IsBlank tallies.old }
-    ensures most { found.new.most ≡ found.old.most }
-    ensures blank { OnOk result (IsBlank tallies.new) }
-    ensures fault { MatchResult result (λ _. fault_in (flat_map (solid_rules space.now) (upto (count space.now 3))) ≡ None) (IsFault (fault_in (flat_map (solid_rules space.now) (upto (count space.now 3))))) }
-{
-    for index in 0..space.cells(3) {
-        check_solid(space, index + 1, tallies, found)?;
-    }
-    Ok(())
 }

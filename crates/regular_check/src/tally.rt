@@ -16,19 +16,6 @@ pub(crate) struct Tally {
 /// The tally of a facet that no cell has.
 pub(crate) const NONE: Tally = Tally { count: 0, sum: 0 };
 
-/// Counts a cell at each of its facets.
-fn add_cell(tallies: &mut [Tally], facets: &[u32], cell: u32)
-    requires facets { IsCell (length tallies.old) facets.now }
-    requires modest { IsModest tallies.old }
-    ensures { AllGain facets.now cell tallies.old tallies.new }
-{
-    for facet in facets {
-        let tally = &mut tallies[*facet as usize - 1];
-        tally.count += 1;
-        tally.sum += u64::from(cell);
-    }
-}
-
 /// Counts each of these cells at each of its facets.
 pub(crate) fn tally_cells(space: &Space, dim: u8, cells: &[u32], tallies: &mut [Tally])
     requires low { 1 ≤ dim }
@@ -41,19 +28,6 @@ pub(crate) fn tally_cells(space: &Space, dim: u8, cells: &[u32], tallies: &mut [
     for cell in cells {
         add_cell(tallies, space.facets(dim, *cell), *cell);
     }
-}
-
-/// Whether exactly two cells are counted at each of these facets.
-fn are_double(tallies: &[Tally], facets: &[u32]) -> bool
-    requires { IsCell (length tallies.now) facets.now }
-    ensures { result ≡ all_double tallies.now facets.now }
-{
-    for facet in facets {
-        if tallies[*facet as usize - 1].count != 2 {
-            return false;
-        }
-    }
-    true
 }
 
 /// Whether each facet of the cells is a facet of exactly two of them.
@@ -72,16 +46,6 @@ pub(crate) fn are_each_twice(space: &Space, dim: u8, cells: &[u32], tallies: &[T
     true
 }
 
-/// Takes the tallies of these facets back.
-fn clear_facets(tallies: &mut [Tally], facets: &[u32])
-    requires { IsCell (length tallies.old) facets.now }
-    ensures { AllClear facets.now tallies.old tallies.new }
-{
-    for facet in facets {
-        tallies[*facet as usize - 1] = NONE;
-    }
-}
-
 /// Takes the tallies of the facets of these cells back.
 pub(crate) fn clear(space: &Space, dim: u8, cells: &[u32], tallies: &mut [Tally])
     requires low { 1 ≤ dim }
@@ -92,5 +56,41 @@ pub(crate) fn clear(space: &Space, dim: u8, cells: &[u32], tallies: &mut [Tally]
 {
     for cell in cells {
         clear_facets(tallies, space.facets(dim, *cell));
+    }
+}
+
+/// Counts a cell at each of its facets.
+fn add_cell(tallies: &mut [Tally], facets: &[u32], cell: u32)
+    requires facets { IsCell (length tallies.old) facets.now }
+    requires modest { IsModest tallies.old }
+    ensures { AllGain facets.now cell tallies.old tallies.new }
+{
+    for facet in facets {
+        let tally = &mut tallies[*facet as usize - 1];
+        tally.count += 1;
+        tally.sum += u64::from(cell);
+    }
+}
+
+/// Whether exactly two cells are counted at each of these facets.
+fn are_double(tallies: &[Tally], facets: &[u32]) -> bool
+    requires { IsCell (length tallies.now) facets.now }
+    ensures { result ≡ all_double tallies.now facets.now }
+{
+    for facet in facets {
+        if tallies[*facet as usize - 1].count != 2 {
+            return false;
+        }
+    }
+    true
+}
+
+/// Takes the tallies of these facets back.
+fn clear_facets(tallies: &mut [Tally], facets: &[u32])
+    requires { IsCell (length tallies.old) facets.now }
+    ensures { AllClear facets.now tallies.old tallies.new }
+{
+    for facet in facets {
+        tallies[*facet as usize - 1] = NONE;
     }
 }

@@ -1,9 +1,9 @@
 -- Tuples in boxes.
 use Rattle.std.proofs.Common.{◌≡◌, ℕ, ◌<◌, List, [], ◌∷◌, Bool, true, nat_lt, map, get_or, refl, ap, sym, ◌∙◌, subst, arith}
 use Rattle.std.specs.List.{range_with_len, list_all}
-use Rattle.std.proofs.lemmas.Bool.{false≢true}
+use Rattle.std.proofs.lemmas.Bool.{false≢true, and_from}
 use Rattle.std.proofs.lemmas.Bool.Decides.{nat_tests}
-use Rattle.regular_check.proofs.Members.{and-left, and-right, and-both}
+use Rattle.number_lists.proofs.CallerLemmas.{and-left, and-right}
 use Rattle.tuple_spaces.proofs.Among.{Among, here, there, AreDistinct, none, more, Among-map, map-Among, flat_map-Among, Among-flat_map, distinct-map, distinct-flat_map, Among-range, range-Among, distinct-range}
 use Rattle.tuple_spaces.specs.Voxels.{boxed}
 use Rattle.tuple_spaces.specs.VoxelLaws.{lies_in}
@@ -52,7 +52,7 @@ lies-within (size ∷ sizes) (i ∷ index) e =
 
 pub within-lies : {sizes index : List ℕ} → Within sizes index → lies_in sizes index ≡ true
 within-lies no_more = refl
-within-lies (one_more {limit} {c} {limits} {cs} l h) = and-both (nat_lt c limit) (lies_in limits cs) (search (nat_tests, arith, l)) (within-lies h)
+within-lies (one_more {limit} {c} {limits} {cs} l h) = and_from (nat_lt c limit) (lies_in limits cs) (search (nat_tests, arith, l)) (within-lies h)
 
 -- what is true of all, and of each
 pub all-Among : {A : Type 0} (p : A → Bool) {x : A} {xs : List A} → list_all p xs ≡ true → Among x xs → p x ≡ true
@@ -61,4 +61,4 @@ all-Among p e (there {y} {xs} i) = all-Among p (and-right (p y) (list_all p xs) 
 
 pub Among-all : {A : Type 0} (p : A → Bool) (xs : List A) → ((x : A) → Among x xs → p x ≡ true) → list_all p xs ≡ true
 Among-all p [] h = refl
-Among-all p (x ∷ xs) h = and-both (p x) (list_all p xs) (h x here) (Among-all p xs (λ y i. h y (there i)))
+Among-all p (x ∷ xs) h = and_from (p x) (list_all p xs) (h x here) (Among-all p xs (λ y i. h y (there i)))

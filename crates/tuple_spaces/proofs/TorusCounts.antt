@@ -6,7 +6,7 @@ use Rattle.std.proofs.lemmas.Bool.{eq-eqb, eqb-true, ne_eqb}
 use Rattle.std.proofs.lemmas.List.{length-append, length-map}
 use Rattle.std.proofs.lemmas.List.Concat.{flat_map-append}
 use Rattle.std.proofs.lemmas.List.Elements.{filter-append}
-use Rattle.regular_check.proofs.Passing.{same_bool}
+use Rattle.number_lists.proofs.CallerLemmas.{same_bool}
 use Rattle.tuple_spaces.specs.Tuples.{tuples, dim_of, is_odd, cells_in, numbers_in}
 use Rattle.tuple_spaces.specs.Torus.{facets_round, torus_of, HasTorusCounts}
 use Rattle.tuple_spaces.proofs.PassingPlaces.{range-more}

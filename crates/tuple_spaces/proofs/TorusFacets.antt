@@ -4,7 +4,8 @@ use Rattle.std.proofs.Math.Nat.{mod-eq_of_lt, mod_self, mul_comm, mul-le-mul_rig
 use Rattle.std.proofs.lemmas.Bool.{eqb-true, cases_lt, ne_eqb}
 use Rattle.std.proofs.lemmas.Nat.{mod_below, div_below}
 use Rattle.std.proofs.lemmas.List.{map-append}
-use Rattle.regular_check.proofs.Members.{In, here, there, append-In}
+use Rattle.number_lists.specs.Members.{In, here, there}
+use Rattle.number_lists.proofs.CallerLemmas.{append-In}
 use Rattle.tuple_spaces.specs.Tuples.{dim_of, is_odd}
 use Rattle.tuple_spaces.specs.Torus.{facets_round}
 use Rattle.tuple_spaces.specs.TorusPlaces.{volume, triple_at, dim_at, moved, pair_places, facet_places}

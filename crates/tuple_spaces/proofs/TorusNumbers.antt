@@ -7,10 +7,8 @@ use Rattle.std.proofs.lemmas.List.{get_or-map, length-map}
 use Rattle.std.proofs.lemmas.List.Kept.{IsStrictlyIncreasing-filter, AllPairs-from_increasing}
 use Rattle.std.proofs.lemmas.List.FromFn.{get_or-range_with_len, length-range_with_len, get_or-map-range_with_len}
 use Rattle.face_poset.specs.Words.{upto, holds}
-use Rattle.number_lists.proofs.CallerLemmas.{same_increasing, increasing-upto, Contains-holds, holds-Contains}
-use Rattle.regular_check.proofs.Members.{In, here, there, In-filter, In-inside, filter-In, any-In, any-some, holds-In, In-holds}
-use Rattle.regular_check.proofs.Passing.{same_bool}
-use Rattle.regular_check.proofs.Joined.{In-upto, upto-In}
+use Rattle.number_lists.proofs.CallerLemmas.{same_increasing, increasing-upto, Contains-holds, holds-Contains, In-filter, In-inside, filter-In, any-In, any-some, holds-In, In-holds, same_bool, In-upto, upto-In}
+use Rattle.number_lists.specs.Members.{In, here, there}
 use Rattle.tuple_spaces.specs.Tuples.{tuples, same, cells_in}
 use Rattle.tuple_spaces.specs.Torus.{facets_round}
 use Rattle.tuple_spaces.specs.TorusPlaces.{volume, triple_at, dim_at, number_at, facet_places, facets_at}

@@ -5,8 +5,8 @@ use Rattle.std.proofs.lemmas.Bool.{eq-eqb, ne_eqb}
 use Rattle.std.proofs.lemmas.List.{map-append, append-nil, length-map}
 use Rattle.face_poset.specs.Words.{upto}
 use Rattle.face_poset.specs.Poset.{layer, count, IsCell}
-use Rattle.regular_check.proofs.Members.{In, here, In-inside, In-at, at-In}
-use Rattle.regular_check.proofs.Joined.{upto-In}
+use Rattle.number_lists.specs.Members.{In, here}
+use Rattle.number_lists.proofs.CallerLemmas.{In-inside, In-at, at-In, upto-In}
 use Rattle.tuple_spaces.specs.Tuples.{tuples, same, is_odd, cells_in, numbers_in, layer_of, space_of}
 use Rattle.tuple_spaces.specs.Torus.{facets_round}
 use Rattle.tuple_spaces.specs.TorusPlaces.{volume, triple_at, dim_at, number_at, facet_places, moved, facets_at, cells_before, stage}

@@ -2,12 +2,12 @@
 use Rattle.std.proofs.Common.{◌≡◌, ℕ, zero, suc, ◌+◌, ◌*◌, ◌/◌, ◌%◌, ◌<◌, ◌≤◌, List, [], ◌∷◌, ◌++◌, Bool, true, false, cond, eqb, filter, map, get_or, refl, ap, sym, ◌∙◌, arith}
 use Rattle.std.specs.List.{range_with_len, flat_map}
 use Rattle.std.proofs.Math.Nat.{mul_comm, mul-le-mul_right}
-use Rattle.std.proofs.lemmas.Bool.{eqb-true, eq-eqb, false≢true}
+use Rattle.std.proofs.lemmas.Bool.{eqb-true, eq-eqb, false≢true, and_from}
 use Rattle.std.proofs.lemmas.Nat.{div-mul-add, mod-mul-add, div-add-mod'}
 use Rattle.std.proofs.lemmas.List.{same_lists, append-nil, append_assoc}
 use Rattle.std.proofs.lemmas.List.Concat.{flat_map-append}
 use Rattle.std.proofs.lemmas.List.FromFn.{length-map-range_with_len, get_or-map-range_with_len, map-range_with_len_more}
-use Rattle.regular_check.proofs.Members.{and-left, and-right, and-both}
+use Rattle.number_lists.proofs.CallerLemmas.{and-left, and-right}
 use Rattle.tuple_spaces.specs.Tuples.{tuples, same, dim_of, cells_in}
 use Rattle.tuple_spaces.specs.TorusPlaces.{volume, triple_at, dim_at}
 use Rattle.tuple_spaces.proofs.PassingPlaces.{range-more, passing}
@@ -143,4 +143,4 @@ same-eq (c ∷ cs) (d ∷ ds) e =
 
 pub eq-same : (t : List ℕ) → same t t ≡ true
 eq-same [] = refl
-eq-same (c ∷ cs) = and-both (eqb c c) (same cs cs) (eq-eqb c c refl) (eq-same cs)
+eq-same (c ∷ cs) = and_from (eqb c c) (same cs cs) (eq-eqb c c refl) (eq-same cs)

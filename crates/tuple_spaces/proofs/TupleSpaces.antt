@@ -7,12 +7,10 @@ use Rattle.std.proofs.lemmas.List.{get_or-map, length-map, get_or_default}
 use Rattle.std.proofs.lemmas.List.Kept.{IsStrictlyIncreasing-filter}
 use Rattle.face_poset.specs.Words.{upto}
 use Rattle.face_poset.specs.Poset.{IsCell, IsSpace, layer, count, facets_of}
-use Rattle.number_lists.proofs.CallerLemmas.{increasing-upto, length-filter-le}
+use Rattle.number_lists.proofs.CallerLemmas.{increasing-upto, length-filter-le, In-filter, In-inside, filter-In, In-at, at-In, In-upto, upto-In}
 use Rattle.regular_check.specs.Rules.{IsRegular, two_ends, one_cycle, each_twice, connected, is_spherical}
-use Rattle.regular_check.proofs.Members.{In, In-filter, In-inside, filter-In, In-at, at-In}
-use Rattle.regular_check.proofs.Joined.{In-upto, upto-In}
-use Rattle.regular_check.proofs.RegularParts.{regular_from}
-use Rattle.regular_check.proofs.Transfer.{IsCopy, edge_copied, disk_copied, solid_copied}
+use Rattle.number_lists.specs.Members.{In}
+use Rattle.regular_check.proofs.CallerLemmas.{regular_from, IsCopy, edge_copied, disk_copied, solid_copied}
 use Rattle.tuple_spaces.specs.Tuples.{same, dim_of, cells_in, numbers_in, layer_of, space_of}
 use Rattle.tuple_spaces.proofs.Among.{Among, here, there, AreDistinct, at-Among, Among-filter, filter-Among, any-Among, any-some, Among-map, map-Among, distinct-filter, distinct-at}
 use Rattle.tuple_spaces.proofs.Triples.{same-eq, eq-same}

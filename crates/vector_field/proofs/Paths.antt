@@ -4,8 +4,8 @@ use Rattle.std.proofs.lemmas.Bool.{eqb-false, eq-eqb, ne_eqb, and_parts, and_fro
 use Rattle.face_poset.specs.declared.cells.Pair.{Pair}
 use Rattle.face_poset.specs.Words.{holds}
 use Rattle.face_poset.specs.Poset.{facets_of}
-use Rattle.regular_check.specs.Reach.{Reaches, at_start, on}
-use Rattle.regular_check.proofs.Reach.{reaches_is}
+use Rattle.number_lists.specs.Reach.{Reaches, at_start, on}
+use Rattle.number_lists.proofs.CallerLemmas.{reaches_is}
 use Rattle.vector_field.specs.Pairs.{has_lower, others}
 use Rattle.vector_field.specs.Paths.{Leads, arrived, along, GradientPath, leads_step, lowers_of, leads_to, PathIsExact}
 use Rattle.vector_field.proofs.Members.{In, here, In-filter, In-map, any-In, any-some, holds-In, In-holds, In-Contains, Contains-In}

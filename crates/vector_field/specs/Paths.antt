@@ -14,7 +14,7 @@ use Rattle.std.specs.List.{list_any}
 use Rattle.face_poset.specs.declared.cells.Pair.{Pair}
 use Rattle.face_poset.specs.Words.{holds}
 use Rattle.face_poset.specs.Poset.{facets_of}
-use Rattle.regular_check.specs.Reach.{reaches}
+use Rattle.number_lists.specs.Reach.{reaches}
 use Rattle.vector_field.specs.Pairs.{has_lower, others}
 
 pub data Leads (space : List (List (List ℕ))) (pairs : List Pair) (dim last : ℕ) : ℕ → Type 0 where

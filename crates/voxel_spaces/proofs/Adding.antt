@@ -3,7 +3,7 @@ use Rattle.std.proofs.Common.{◌≡◌, ℕ, ◌+◌, ◌-◌, ◌<◌, ◌≤�
 use Rattle.std.specs.List.Sorted.{IsStrictlyIncreasing}
 use Rattle.std.proofs.lemmas.List.{take_more}
 use Rattle.face_poset.specs.Poset.{IsCell, layer, count}
-use Rattle.regular_check.proofs.Members.{In}
+use Rattle.number_lists.specs.Members.{In}
 use Rattle.array_values.specs.Bits.{volume}
 use Rattle.tuple_spaces.specs.Tuples.{cells_in, numbers_in}
 use Rattle.tuple_spaces.specs.Voxels.{facets}

@@ -1,7 +1,7 @@
 -- Whether one of the rows passes.
 use Rattle.std.proofs.Common.{◌≡◌, ℕ, zero, suc, ◌+◌, ◌<◌, ◌≤◌, List, [], ◌∷◌, ◌++◌, Bool, true, false, ◌||◌, length, take, get_or, refl, ap, sym, ◌∙◌, arith}
 use Rattle.std.proofs.lemmas.List.{take_more, take_all, length-take-le}
-use Rattle.regular_check.proofs.Members.{or-left, or-right}
+use Rattle.std.proofs.lemmas.Bool.{or_left, or_right}
 use Rattle.voxel_spaces.specs.ArcComplements.{any_row}
 
 none-first : (a b : Bool) → (a || b) ≡ false → a ≡ false
@@ -23,9 +23,9 @@ none-push test n (r ∷ rows) p h e =
 
 pub any-at : (test : ℕ → ℕ × ℕ → Bool) (n : ℕ) (rows : List (ℕ × ℕ)) (i : ℕ) (d : ℕ × ℕ) → i < length rows → test (i + n) (get_or rows i d) ≡ true → any_row test n rows ≡ true
 any-at test n [] i d l e = absurd (omega arith)
-any-at test n (r ∷ rows) zero d l e = or-left (test n r) (any_row test (suc n) rows) (ap (λ (m : ℕ). test m r) (let q : n ≡ zero + n = omega arith in q) ∙ e)
+any-at test n (r ∷ rows) zero d l e = or_left (test n r) (any_row test (suc n) rows) (ap (λ (m : ℕ). test m r) (let q : n ≡ zero + n = omega arith in q) ∙ e)
 any-at test n (r ∷ rows) (suc i) d l e =
-    or-right (test n r) (any_row test (suc n) rows) (any-at test (suc n) rows i d (omega arith) (ap (λ (m : ℕ). test m (get_or rows i d)) (let q : i + suc n ≡ suc i + n = omega arith in q) ∙ e))
+    or_right (test n r) (any_row test (suc n) rows) (any-at test (suc n) rows i d (omega arith) (ap (λ (m : ℕ). test m (get_or rows i d)) (let q : i + suc n ≡ suc i + n = omega arith in q) ∙ e))
 
 pub none-more : (test : ℕ → ℕ × ℕ → Bool) (n : ℕ) (rows : List (ℕ × ℕ)) (i : ℕ) (d : ℕ × ℕ) → i < length rows → any_row test n (take i rows) ≡ false → test (i + n) (get_or rows i d) ≡ false → any_row test n (take (i + 1) rows) ≡ false
 none-more test n rows i d l h e =

@@ -3,7 +3,7 @@ use Rattle.std.proofs.Common.{◌≡◌, ℕ, ◌<◌, ◌≤◌, List, Bool, tr
 use Rattle.std.specs.List.{list_any, items_where_true, range_with_len, All}
 use Rattle.std.specs.List.Sorted.{IsStrictlyIncreasing}
 use Rattle.std.proofs.lemmas.List.FromFn.{length-range_with_len}
-use Rattle.regular_check.proofs.Members.{at-In}
+use Rattle.number_lists.proofs.CallerLemmas.{at-In}
 use Rattle.array_values.specs.Bits.{volume}
 use Rattle.tuple_spaces.specs.Voxels.{boxed}
 use Rattle.voxel_spaces.specs.Places.{strides_of, tuple_at}

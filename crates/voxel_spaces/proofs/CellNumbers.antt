@@ -2,17 +2,15 @@
 use Rattle.std.proofs.Common.{◌≡◌, inl, inr, ℕ, zero, suc, ◌+◌, ◌-◌, ◌<◌, ◌≤◌, List, [], ◌∷◌, Bool, true, false, cond, ◌||◌, ◌&&◌, eqb, nat_lt, filter, map, length, get_or, take, set, Contains, refl, ap, sym, ◌∙◌, subst, arith}
 use Rattle.std.specs.List.{list_any, All}
 use Rattle.std.specs.List.Sorted.{IsStrictlyIncreasing}
-use Rattle.std.proofs.lemmas.Bool.{eq-eqb, cases_lt, ltb-true, lt-ltb}
+use Rattle.std.proofs.lemmas.Bool.{eq-eqb, cases_lt, ltb-true, lt-ltb, false_from_ne_true}
 use Rattle.std.proofs.lemmas.Bool.Decides.{eqb_tells}
 use Rattle.std.proofs.lemmas.List.{get_or-map, length-map, length-append, take_more, get_or-set_same, get_or-set_other}
 use Rattle.std.proofs.lemmas.List.Elements.{filter-append}
 use Rattle.std.proofs.lemmas.List.Kept.{IsStrictlyIncreasing-filter, AllPairs-from_increasing}
 use Rattle.face_poset.specs.Words.{upto, holds}
 use Rattle.face_poset.specs.Poset.{IsCell}
-use Rattle.number_lists.proofs.CallerLemmas.{same_increasing, increasing-upto, increasing_head, increasing_tail, Contains-holds, holds-Contains}
-use Rattle.regular_check.proofs.Members.{In, here, In-filter, In-inside, filter-In, any-In, any-some, holds-In, In-holds, In-at, at-In}
-use Rattle.regular_check.proofs.Passing.{same_bool, not_true}
-use Rattle.regular_check.proofs.Joined.{In-upto, upto-In}
+use Rattle.number_lists.proofs.CallerLemmas.{same_increasing, increasing-upto, increasing_head, increasing_tail, Contains-holds, holds-Contains, In-filter, In-inside, filter-In, any-In, any-some, holds-In, In-holds, In-at, at-In, same_bool, In-upto, upto-In}
+use Rattle.number_lists.specs.Members.{In, here}
 use Rattle.array_values.specs.Bits.{volume}
 use Rattle.tuple_spaces.specs.Tuples.{same, dim_of, cells_in, numbers_in}
 use Rattle.tuple_spaces.proofs.TorusNumbers.{In-map, map-In}
@@ -44,14 +42,14 @@ none_below : (test : ℕ → Bool) (x : ℕ) (xs : List ℕ) → All (λ y. x < 
 none_below test x [] h = refl
 none_below test x (y ∷ ys) h =
     let l : x < y = h 0 0 (omega arith) in
-    ap (λ (b : Bool). cond (b && test y) (y ∷ filter (λ q. nat_lt q x && test q) ys) (filter (λ q. nat_lt q x && test q) ys)) (not_true (nat_lt y x) (λ e. let m : y < x = ltb-true y x e in omega arith))
+    ap (λ (b : Bool). cond (b && test y) (y ∷ filter (λ q. nat_lt q x && test q) ys) (filter (λ q. nat_lt q x && test q) ys)) (false_from_ne_true (nat_lt y x) (λ e. let m : y < x = ltb-true y x e in omega arith))
     ∙ none_below test x ys (λ k d m. h (suc k) d (omega arith))
 
 -- those below a member are those that stand before it
 pub below_is : (test : ℕ → Bool) (xs : List ℕ) (i : ℕ) → IsStrictlyIncreasing xs → i < length xs → filter (λ q. nat_lt q (get_or xs i 0) && test q) xs ≡ filter test (take i xs)
 below_is test [] i h l = absurd (omega arith)
 below_is test (x ∷ xs) zero h l =
-    ap (λ (b : Bool). cond (b && test x) (x ∷ filter (λ q. nat_lt q x && test q) xs) (filter (λ q. nat_lt q x && test q) xs)) (not_true (nat_lt x x) (λ e. let m : x < x = ltb-true x x e in omega arith))
+    ap (λ (b : Bool). cond (b && test x) (x ∷ filter (λ q. nat_lt q x && test q) xs) (filter (λ q. nat_lt q x && test q) xs)) (false_from_ne_true (nat_lt x x) (λ e. let m : x < x = ltb-true x x e in omega arith))
     ∙ none_below test x xs (increasing_head x xs h)
 below_is test (x ∷ xs) (suc i) h l =
     let m : i < length xs = omega arith in

@@ -2,12 +2,12 @@
 use Rattle.std.proofs.Common.{◌≡◌, ℕ, ◌+◌, ◌*◌, ◌<◌, ◌≤◌, List, Bool, cond, nat_lt, filter, map, length, get_or, Contains, Ok, Err, refl, ap, sym, ◌∙◌, subst, arith}
 use Rattle.std.specs.List.{flat_map, All, range_with_len}
 use Rattle.std.specs.List.Sorted.{IsStrictlyIncreasing}
-use Rattle.std.proofs.lemmas.Bool.{lt-ltb, ltb-true}
+use Rattle.std.proofs.lemmas.Bool.{lt-ltb, ltb-true, false_from_ne_true}
 use Rattle.std.proofs.lemmas.List.{length-map}
 use Rattle.std.proofs.lemmas.List.Kept.{IsStrictlyIncreasing-filter}
 use Rattle.face_poset.specs.Words.{holds}
-use Rattle.regular_check.proofs.Members.{In, In-at, In-filter, filter-In, In-holds, holds-In}
-use Rattle.regular_check.proofs.Passing.{not_true}
+use Rattle.number_lists.specs.Members.{In}
+use Rattle.number_lists.proofs.CallerLemmas.{In-at, In-filter, filter-In, In-holds, holds-In}
 use Rattle.array_values.specs.declared.fault.ArrayFault.TheVariants.{TooManyCells}
 use Rattle.array_values.specs.Bits.{volume}
 use Rattle.tuple_spaces.specs.Tuples.{space_of}
@@ -95,7 +95,7 @@ module _ (sizes I : List ℕ) (s : Some sizes) (l : length sizes ≤ 3) (h : vol
       )
 
   space-few : (cells : List (List ℕ)) → length cells ≤ 60000 → limited cells ≡ Ok (space_of facets cells)
-  space-few cells m = ap (λ (b : Bool). cond b (Err TooManyCells) (Ok (space_of facets cells))) (not_true (nat_lt 60000 (length cells)) (λ q. let z : 60000 < length cells = ltb-true 60000 (length cells) q in omega arith))
+  space-few cells m = ap (λ (b : Bool). cond b (Err TooManyCells) (Ok (space_of facets cells))) (false_from_ne_true (nat_lt 60000 (length cells)) (λ q. let z : 60000 < length cells = ltb-true 60000 (length cells) q in omega arith))
 
   space-many : (cells : List (List ℕ)) → 60000 < length cells → limited cells ≡ Err TooManyCells
   space-many cells m = ap (λ (b : Bool). cond b (Err TooManyCells) (Ok (space_of facets cells))) (lt-ltb 60000 (length cells) m)

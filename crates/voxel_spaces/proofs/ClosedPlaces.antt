@@ -3,16 +3,15 @@ use Rattle.std.proofs.Common.{◌≡◌, inl, inr, ℕ, zero, suc, ◌+◌, ◌-
 use Rattle.std.specs.List.{list_any, flat_map, range_with_len, All}
 use Rattle.std.specs.List.Sorted.{IsStrictlyIncreasing}
 use Rattle.std.proofs.Math.Nat.{mul-le-mul, mul-le-mul_right}
-use Rattle.std.proofs.lemmas.Bool.{eq-eqb, cases_lt, false≢true}
+use Rattle.std.proofs.lemmas.Bool.{eq-eqb, cases_lt, false≢true, or_left, or_right, or_cases}
 use Rattle.std.proofs.lemmas.Nat.{div-add-mod', mod_below}
 use Rattle.std.proofs.lemmas.List.{get_or-map, length-map}
 use Rattle.std.proofs.lemmas.List.Folds.{list_any-append}
 use Rattle.std.proofs.lemmas.List.Kept.{IsStrictlyIncreasing-filter}
 use Rattle.std.proofs.lemmas.List.FromFn.{get_or-range_with_len, length-range_with_len}
 use Rattle.face_poset.specs.Words.{holds}
-use Rattle.number_lists.proofs.CallerLemmas.{length-filter-le, same_increasing, Contains-holds, holds-Contains}
-use Rattle.regular_check.proofs.Members.{In, here, there, In-filter, In-inside, filter-In, holds-In, In-holds, In-at, at-In, In-left, In-right, append-In, or-left, or-right, or-cases}
-use Rattle.regular_check.proofs.Passing.{same_bool}
+use Rattle.number_lists.proofs.CallerLemmas.{length-filter-le, same_increasing, Contains-holds, holds-Contains, In-filter, In-inside, filter-In, holds-In, In-holds, In-at, at-In, In-left, In-right, append-In, same_bool}
+use Rattle.number_lists.specs.Members.{In, here, there}
 use Rattle.array_values.specs.Bits.{volume}
 use Rattle.tuple_spaces.specs.Tuples.{same, dim_of}
 use Rattle.tuple_spaces.proofs.TorusFacets.{dim-cons, even-is}
@@ -34,13 +33,13 @@ increasing-range n k l =
 -- a tuple whose image this is
 map-any : (f : List ℕ → ℕ) (n : ℕ) (us : List (List ℕ)) → In n (map f us) → (t : List ℕ) × (n ≡ f t) × (list_any (same t) us ≡ true)
 map-any f n [] i = elim i [ ]
-map-any f n (u ∷ us) here = (u, refl, or-left (same u u) (list_any (same u) us) (eq-same u))
-map-any f n (u ∷ us) (there i) = let r = map-any f n us i in (r.0, r.1, or-right (same r.0 u) (list_any (same r.0) us) r.2)
+map-any f n (u ∷ us) here = (u, refl, or_left (same u u) (list_any (same u) us) (eq-same u))
+map-any f n (u ∷ us) (there i) = let r = map-any f n us i in (r.0, r.1, or_right (same r.0 u) (list_any (same r.0) us) r.2)
 
 any-map : (f : List ℕ → ℕ) (t : List ℕ) (us : List (List ℕ)) → list_any (same t) us ≡ true → In (f t) (map f us)
 any-map f t [] h = absurd (false≢true h)
 any-map f t (u ∷ us) h =
-    elim (or-cases (same t u) (list_any (same t) us) h) [
+    elim (or_cases (same t u) (list_any (same t) us) h) [
       | inl q ↦ subst (λ (w : List ℕ). In (f t) (f w ∷ map f us)) (same-eq t u q) here
       | inr q ↦ there (any-map f t us q)
     ]
@@ -61,15 +60,15 @@ flat-In g i n (x ∷ xs) (there j) h = In-right (g x) (flat-In g i n xs j h)
 any-flat : (p : List ℕ → Bool) (h : List ℕ → List (List ℕ)) (g : ℕ → List ℕ) (xs : List ℕ) → list_any p (flat_map h (map g xs)) ≡ true → (i : ℕ) × In i xs × (list_any p (h (g i)) ≡ true)
 any-flat p h g [] e = absurd (false≢true e)
 any-flat p h g (x ∷ xs) e =
-    elim (or-cases (list_any p (h (g x))) (list_any p (flat_map h (map g xs))) (sym (list_any-append p (h (g x)) (flat_map h (map g xs))) ∙ e)) [
+    elim (or_cases (list_any p (h (g x))) (list_any p (flat_map h (map g xs))) (sym (list_any-append p (h (g x)) (flat_map h (map g xs))) ∙ e)) [
       | inl q ↦ (x, here, q)
       | inr q ↦ let r = any-flat p h g xs q in (r.0, there r.1, r.2)
     ]
 
 flat-any : (p : List ℕ → Bool) (h : List ℕ → List (List ℕ)) (g : ℕ → List ℕ) (i : ℕ) (xs : List ℕ) → In i xs → list_any p (h (g i)) ≡ true → list_any p (flat_map h (map g xs)) ≡ true
 flat-any p h g i [] j e = elim j [ ]
-flat-any p h g i (x ∷ xs) here e = list_any-append p (h (g x)) (flat_map h (map g xs)) ∙ or-left (list_any p (h (g x))) (list_any p (flat_map h (map g xs))) e
-flat-any p h g i (x ∷ xs) (there j) e = list_any-append p (h (g x)) (flat_map h (map g xs)) ∙ or-right (list_any p (h (g x))) (list_any p (flat_map h (map g xs))) (flat-any p h g i xs j e)
+flat-any p h g i (x ∷ xs) here e = list_any-append p (h (g x)) (flat_map h (map g xs)) ∙ or_left (list_any p (h (g x))) (list_any p (flat_map h (map g xs))) e
+flat-any p h g i (x ∷ xs) (there j) e = list_any-append p (h (g x)) (flat_map h (map g xs)) ∙ or_right (list_any p (h (g x))) (list_any p (flat_map h (map g xs))) (flat-any p h g i xs j e)
 
 pub range-In : (n m : ℕ) → m < n → In m (range_with_len 0 n)
 range-In n m l = subst (λ (k : ℕ). In k (range_with_len 0 n)) (get_or-range_with_len 0 n m 0 l ∙ (let e : 0 + m ≡ m = omega arith in e)) (at-In (range_with_len 0 n) m 0 (omega (arith, length-range_with_len 0 n)))

@@ -4,8 +4,8 @@ use Rattle.std.specs.List.{list_any}
 use Rattle.std.proofs.lemmas.List.{map-append, append-nil}
 use Rattle.std.proofs.lemmas.List.Folds.{list_any-append}
 use Rattle.std.proofs.lemmas.List.Sums.{sum_by-cons}
-use Rattle.std.proofs.lemmas.Bool.{eq-eqb, eqb-true, false≢true}
-use Rattle.regular_check.proofs.Members.{and-left, and-right, and-both, or-left, or-right, or-cases}
+use Rattle.std.proofs.lemmas.Bool.{eq-eqb, eqb-true, false≢true, and_from, or_left, or_right, or_cases}
+use Rattle.number_lists.proofs.CallerLemmas.{and-left, and-right}
 use Rattle.array_values.specs.Bits.{volume}
 use Rattle.tuple_spaces.specs.Tuples.{same}
 use Rattle.tuple_spaces.proofs.Triples.{map_twice}
@@ -100,17 +100,17 @@ IsNear (c ∷ cs) (d ∷ ds) = IsBeside c d × IsNear cs ds
 any_row : (d : ℕ) (t : List ℕ) (e : ℕ) (us : List (List ℕ)) → list_any (same (d ∷ t)) (map (λ u. e ∷ u) us) ≡ true → (d ≡ e) × (list_any (same t) us ≡ true)
 any_row d t e [] h = absurd (false≢true h)
 any_row d t e (u ∷ us) h =
-    elim (or-cases (eqb d e && same t u) (list_any (same (d ∷ t)) (map (λ w. e ∷ w) us)) h) [
-      | inl q ↦ (eqb-true d e (and-left (eqb d e) (same t u) q), or-left (same t u) (list_any (same t) us) (and-right (eqb d e) (same t u) q))
-      | inr q ↦ let r = any_row d t e us q in (r.0, or-right (same t u) (list_any (same t) us) r.1)
+    elim (or_cases (eqb d e && same t u) (list_any (same (d ∷ t)) (map (λ w. e ∷ w) us)) h) [
+      | inl q ↦ (eqb-true d e (and-left (eqb d e) (same t u) q), or_left (same t u) (list_any (same t) us) (and-right (eqb d e) (same t u) q))
+      | inr q ↦ let r = any_row d t e us q in (r.0, or_right (same t u) (list_any (same t) us) r.1)
     ]
 
 row_any : (d : ℕ) (t : List ℕ) (us : List (List ℕ)) → list_any (same t) us ≡ true → list_any (same (d ∷ t)) (map (λ u. d ∷ u) us) ≡ true
 row_any d t [] h = absurd (false≢true h)
 row_any d t (u ∷ us) h =
-    elim (or-cases (same t u) (list_any (same t) us) h) [
-      | inl q ↦ or-left (eqb d d && same t u) (list_any (same (d ∷ t)) (map (λ w. d ∷ w) us)) (and-both (eqb d d) (same t u) (eq-eqb d d refl) q)
-      | inr q ↦ or-right (eqb d d && same t u) (list_any (same (d ∷ t)) (map (λ w. d ∷ w) us)) (row_any d t us q)
+    elim (or_cases (same t u) (list_any (same t) us) h) [
+      | inl q ↦ or_left (eqb d d && same t u) (list_any (same (d ∷ t)) (map (λ w. d ∷ w) us)) (and_from (eqb d d) (same t u) (eq-eqb d d refl) q)
+      | inr q ↦ or_right (eqb d d && same t u) (list_any (same (d ∷ t)) (map (λ w. d ∷ w) us)) (row_any d t us q)
     ]
 
 three : (p : List ℕ → Bool) (a b c : List (List ℕ)) → list_any p (a ++ (b ++ (c ++ []))) ≡ (list_any p a || (list_any p b || (list_any p c || false)))
@@ -127,11 +127,11 @@ near-any (c ∷ cs) (d ∷ ds) h =
     let r : (e : ℕ) → d ≡ e → list_any p (line e) ≡ true = λ e q. subst (λ (n : ℕ). list_any p (line n) ≡ true) q (row_any d ds (faces cs) (near-any cs ds h.1)) in
     three p (line (c - 1)) (line c) (line (c + 1))
     ∙ elim h.0 [
-      | inl q ↦ or-left (list_any p (line (c - 1))) (list_any p (line c) || (list_any p (line (c + 1)) || false)) (r (c - 1) (omega arith))
-      | inr q ↦ or-right (list_any p (line (c - 1))) (list_any p (line c) || (list_any p (line (c + 1)) || false))
+      | inl q ↦ or_left (list_any p (line (c - 1))) (list_any p (line c) || (list_any p (line (c + 1)) || false)) (r (c - 1) (omega arith))
+      | inr q ↦ or_right (list_any p (line (c - 1))) (list_any p (line c) || (list_any p (line (c + 1)) || false))
           (elim q [
-            | inl s ↦ or-left (list_any p (line c)) (list_any p (line (c + 1)) || false) (r c s)
-            | inr s ↦ or-right (list_any p (line c)) (list_any p (line (c + 1)) || false) (or-left (list_any p (line (c + 1))) false (r (c + 1) s))
+            | inl s ↦ or_left (list_any p (line c)) (list_any p (line (c + 1)) || false) (r c s)
+            | inr s ↦ or_right (list_any p (line c)) (list_any p (line (c + 1)) || false) (or_left (list_any p (line (c + 1))) false (r (c + 1) s))
           ])
     ]
 
@@ -156,11 +156,11 @@ any-near (c ∷ cs) (d ∷ ds) o h =
     let p : List ℕ → Bool = same (d ∷ ds) in
     let line : ℕ → List (List ℕ) = λ e. map (λ t. e ∷ t) (faces cs) in
     let odd : c % 2 ≡ 1 = o.0 in
-    elim (or-cases (list_any p (line (c - 1))) (list_any p (line c) || (list_any p (line (c + 1)) || false)) (sym (three p (line (c - 1)) (line c) (line (c + 1))) ∙ h)) [
+    elim (or_cases (list_any p (line (c - 1))) (list_any p (line c) || (list_any p (line (c + 1)) || false)) (sym (three p (line (c - 1)) (line c) (line (c + 1))) ∙ h)) [
       | inl q ↦ let r = any_row d ds (c - 1) (faces cs) q in let e : d ≡ c - 1 = r.0 in (inl (omega arith), any-near cs ds o.1 r.1)
-      | inr q ↦ elim (or-cases (list_any p (line c)) (list_any p (line (c + 1)) || false) q) [
+      | inr q ↦ elim (or_cases (list_any p (line c)) (list_any p (line (c + 1)) || false) q) [
         | inl s ↦ let r = any_row d ds c (faces cs) s in (inr (inl r.0), any-near cs ds o.1 r.1)
-        | inr s ↦ elim (or-cases (list_any p (line (c + 1))) false s) [
+        | inr s ↦ elim (or_cases (list_any p (line (c + 1))) false s) [
           | inl u ↦ let r = any_row d ds (c + 1) (faces cs) u in (inr (inr r.0), any-near cs ds o.1 r.1)
           | inr u ↦ absurd (false≢true u)
         ]

@@ -4,8 +4,8 @@ use Rattle.std.specs.List.Sorted.{IsStrictlyIncreasing}
 use Rattle.std.proofs.lemmas.Bool.{cases_lt}
 use Rattle.std.proofs.lemmas.List.{get_or-map}
 use Rattle.std.proofs.lemmas.List.Kept.{AllPairs-from_increasing}
-use Rattle.number_lists.proofs.CallerLemmas.{Contains-holds, holds-Contains}
-use Rattle.regular_check.proofs.Members.{In, holds-In, In-holds, In-at}
+use Rattle.number_lists.proofs.CallerLemmas.{Contains-holds, holds-Contains, holds-In, In-holds, In-at}
+use Rattle.number_lists.specs.Members.{In}
 
 pub to_In : (xs : List ℕ) (x : ℕ) → Contains xs x → In x xs
 to_In xs x h = holds-In xs (Contains-holds xs x h)

@@ -5,8 +5,8 @@ use Rattle.std.specs.List.Sorted.{IsStrictlyIncreasing}
 use Rattle.std.proofs.lemmas.Bool.{false≢true}
 use Rattle.std.proofs.lemmas.List.{take_more, length-take-le}
 use Rattle.std.proofs.lemmas.List.FromFn.{length-range_with_len}
-use Rattle.number_lists.proofs.CallerLemmas.{increasing_head, increasing_tail}
-use Rattle.regular_check.proofs.Members.{In, here, there, at-In, In-at}
+use Rattle.number_lists.proofs.CallerLemmas.{increasing_head, increasing_tail, at-In, In-at}
+use Rattle.number_lists.specs.Members.{In, here, there}
 use Rattle.tuple_spaces.proofs.PassingPlaces.{range-more}
 
 pub where-map : {A B : Type 0} (f : A → B) (bs : List Bool) (xs : List A) → items_where_true bs (map f xs) ≡ map f (items_where_true bs xs)

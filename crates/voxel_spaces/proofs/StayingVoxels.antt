@@ -10,9 +10,8 @@ use Rattle.std.proofs.lemmas.List.Elements.{filter-append}
 use Rattle.std.proofs.lemmas.List.Kept.{IsStrictlyIncreasing-filter}
 use Rattle.std.proofs.lemmas.List.FromFn.{length-map-range_with_len, get_or-map-range_with_len}
 use Rattle.face_poset.specs.Words.{holds}
-use Rattle.number_lists.proofs.CallerLemmas.{length-filter-le, same_increasing}
-use Rattle.regular_check.proofs.Members.{In, In-filter, In-inside, filter-In, holds-In, In-holds, In-at, at-In}
-use Rattle.regular_check.proofs.Passing.{same_bool}
+use Rattle.number_lists.proofs.CallerLemmas.{length-filter-le, same_increasing, In-filter, In-inside, filter-In, holds-In, In-holds, In-at, at-In, same_bool}
+use Rattle.number_lists.specs.Members.{In}
 use Rattle.array_values.specs.Bits.{volume}
 use Rattle.tuple_spaces.proofs.PassingPlaces.{range-more}
 use Rattle.tuple_spaces.proofs.Triples.{filter_map}

@@ -4,7 +4,7 @@ use Rattle.std.proofs.lemmas.List.{take_all}
 use Rattle.face_poset.specs.Poset.{IsCell, IsSpace, count, cell_count, facets_of}
 use Rattle.face_poset.specs.Below.{facets_of_all}
 use Rattle.face_poset.proofs.BelowLemmas.{facets_few}
-use Rattle.regular_check.specs.Marks.{inserted_all}
+use Rattle.number_lists.specs.Found.{inserted_all}
 use Rattle.regular_check.proofs.Distinct.{facets-more, length-vertices}
 use Rattle.regular_check.proofs.boundary.count_vertices.Goals as goal
 
@@ -33,10 +33,10 @@ few : (space : List (List (List ℕ))) (edges : List ℕ) → IsSpace space → 
 few space edges h = let f : cell_count space ≤ 4294967295 = h.few in omega (arith, f, facets_few space 0 edges)
 
 pub returns-clause-number : goal.returns-clause-number
-returns-clause-number c = c.len.ensures ∙ counted c.args.space.now c.args.disks.now c.loop-disk.found.numbers c.loop-disk.disk-index c.requires.valid c.requires.disks c.loop-disk-test.false c.loop-disk.invariant.1
+returns-clause-number c = c.len.ensures.len ∙ counted c.args.space.now c.args.disks.now c.loop-disk.found.found c.loop-disk.disk-index c.requires.valid c.requires.disks c.loop-disk-test.false c.loop-disk.invariant.1
 
 pub overflow_cast-result : goal.overflow_cast-result
 overflow_cast-result c =
     let n : c.len.result ≡ length (facets_of_all c.args.space.now 0 (facets_of_all c.args.space.now 1 c.args.disks.now)) =
-    c.len.ensures ∙ counted c.args.space.now c.args.disks.now c.loop-disk.found.numbers c.loop-disk.disk-index c.requires.valid c.requires.disks c.loop-disk-test.false c.loop-disk.invariant.1 in
+    c.len.ensures.len ∙ counted c.args.space.now c.args.disks.now c.loop-disk.found.found c.loop-disk.disk-index c.requires.valid c.requires.disks c.loop-disk-test.false c.loop-disk.invariant.1 in
     omega (arith, n, few c.args.space.now (facets_of_all c.args.space.now 1 c.args.disks.now) c.requires.valid)

@@ -1,9 +1,9 @@
 use Rattle.std.proofs.Common.{◌≡◌, ◌<◌, ◌+◌, ℕ, List, ◌++◌, take, drop, cond, length, get_or, ap, ◌∙◌, sym, subst, arith, Vec, Global}
 use Rattle.std.proofs.lemmas.List.{get_or_default}
 use Rattle.std.proofs.lemmas.Grind.{common_steps}
-use Rattle.face_poset.specs.Words.{holds}
+use Rattle.number_lists.specs.Words.{holds}
 use Rattle.face_poset.specs.Poset.{count}
-use Rattle.regular_check.specs.Marks.{Found}
+use Rattle.number_lists.specs.Found.{Numbers}
 use Rattle.regular_check.specs.Components.{Numbering, component_count}
 use Rattle.regular_check.proofs.Numbered.{IsNumbered, number_low, numbered_idle, numbered_more, numbered_all}
 use Rattle.regular_check.proofs.components.find_components.Goals as goal
@@ -23,10 +23,10 @@ loop-index-preserved c =
     let at : c.index.result.now ≡ get_or c.loop-index.numbers.items c.loop-index.index 0 = c.index.ensures ∙ get_or_default c.loop-index.numbers.items c.loop-index.index c.index.result.now 0 (omega (arith, lt, h.long)) in
     elim c.if-index-eq0.branch [
       | then-index-eq0+in_ok-find_joined w ↦ (
-        ap (λ (m : Found). m.most) w.found-is ∙ (w.find_joined.ensures.most ∙ c.loop-index.invariant.0),
+        ap (λ (m : Numbers). m.most) w.found-is ∙ (w.find_joined.ensures.most ∙ c.loop-index.invariant.0),
         let numbers : List ℕ = c.loop-index.numbers.items in
             let new : List ℕ = w.write.new.places in
-            let found : List ℕ = w.find_joined.new.found.numbers in
+            let found : List ℕ = w.find_joined.new.found.found in
             let long : length new ≡ length numbers = w.write.auto.places ∙ ap length w.deref_mut.ensures.value in
             let written : (k : ℕ) → k < length numbers → get_or new k 0 ≡ cond (holds found (k + 1)) (c.loop-index.count + 1) (get_or numbers k 0) =
             subst (λ (old : List ℕ). (k : ℕ) → k < length old → get_or new k 0 ≡ cond (holds found (k + 1)) (c.loop-index.count + 1) (get_or old k 0)) w.deref_mut.ensures.value w.write.ensures in
@@ -35,7 +35,7 @@ loop-index-preserved c =
             (numbered_more c.args.space.now c.loop-index.index c.loop-index.count numbers lt h (sym at ∙ w.if-index-eq0.true) found new w.in_ok-find_joined.ensures.found long written)),
       )
       | else-index-eq0 w ↦ (
-        ap (λ (m : Found). m.most) w.found-is ∙ c.loop-index.invariant.0,
+        ap (λ (m : Numbers). m.most) w.found-is ∙ c.loop-index.invariant.0,
         subst (λ (ns : List ℕ). IsNumbered c.args.space.now (c.loop-index.index + 1) c.if-index-eq0.count ns) (sym (ap (λ (v : Vec ℕ Global). v.items) w.numbers-is))
             (subst (λ (n : ℕ). IsNumbered c.args.space.now (c.loop-index.index + 1) n c.loop-index.numbers.items) (sym w.count-is)
             (numbered_idle c.args.space.now c.loop-index.index c.loop-index.count c.loop-index.numbers.items lt h (λ q. w.if-index-eq0.false (at ∙ q)))),

@@ -6,7 +6,8 @@ use Rattle.regular_check.specs.declared.tally.Tally.{Tally}
 use Rattle.regular_check.specs.Rules.{each_twice}
 use Rattle.regular_check.specs.Tally.{IsTally, other, tally_at}
 use Rattle.regular_check.specs.Cycle.{end_of, step_from, walk, HasEnds}
-use Rattle.regular_check.proofs.Members.{In, In-at}
+use Rattle.number_lists.specs.Members.{In}
+use Rattle.number_lists.proofs.CallerLemmas.{In-at}
 use Rattle.regular_check.proofs.Cells.{facets-cell}
 use Rattle.regular_check.proofs.Searching.{IsReady, cell_low, others_are}
 use Rattle.regular_check.proofs.Walking.{IsWalk, walk_begun, walk_on, end_in}

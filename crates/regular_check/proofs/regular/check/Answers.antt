@@ -1,7 +1,7 @@
 use Rattle.std.proofs.Common.{rules, ◌≡◌, ◌++◌, ℕ, List, ◌∙◌, None}
 use Rattle.std.specs.List.{flat_map}
 use Rattle.std.proofs.lemmas.Result.{err_from_is_err_and}
-use Rattle.face_poset.specs.Words.{upto}
+use Rattle.number_lists.specs.Words.{upto}
 use Rattle.face_poset.specs.Poset.{count}
 use Rattle.regular_check.specs.declared.fault.RegularFault.{RegularFault}
 use Rattle.regular_check.specs.Rules.{Rule, edge_rules, disk_rules, solid_rules, fault_in, first_fault, IsRegular, IsFault}

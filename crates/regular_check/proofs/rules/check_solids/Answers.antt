@@ -1,7 +1,7 @@
 use Rattle.std.proofs.Common.{◌+◌, ◌∙◌, arith}
 use Rattle.std.specs.List.{flat_map}
 use Rattle.std.proofs.lemmas.Result.{err_from_is_err_and}
-use Rattle.face_poset.specs.Words.{upto}
+use Rattle.number_lists.specs.Words.{upto}
 use Rattle.face_poset.specs.Poset.{count}
 use Rattle.regular_check.specs.Rules.{solid_rules, fault_in}
 use Rattle.regular_check.proofs.Faults.{layer_first, layer_none, kept_more, fault_moves}

@@ -1,9 +1,8 @@
 use Rattle.std.proofs.Common.{◌≡◌, ◌<◌, ◌+◌, ◌-◌, ◌^◌, ℕ, List, length, get_or, take, ap, ◌∙◌, sym, subst, arith}
 use Rattle.face_poset.specs.Poset.{IsCell}
-use Rattle.number_lists.proofs.CallerLemmas.{holds-before}
+use Rattle.number_lists.proofs.CallerLemmas.{holds-before, IsTouched, touch-more, touch-fresh}
 use Rattle.regular_check.specs.declared.tally.Tally.{Tally}
 use Rattle.regular_check.specs.Tally.{none, with_cell, IsModest}
-use Rattle.regular_check.proofs.Touch.{IsTouched, touch-more, touch-fresh}
 use Rattle.regular_check.proofs.tally.add_cell.Goals as goal
 
 -- the tally at the facet is as it was

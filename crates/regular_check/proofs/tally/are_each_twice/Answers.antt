@@ -6,7 +6,8 @@ use Rattle.regular_check.specs.Rules.{sharing, each_twice}
 use Rattle.regular_check.specs.Tally.{IsTally, all_double}
 use Rattle.regular_check.proofs.Cells.{facets-cell}
 use Rattle.regular_check.proofs.Tallies.{double-is}
-use Rattle.regular_check.proofs.Passing.{pass_more, fails_at, not_true}
+use Rattle.regular_check.proofs.Passing.{pass_more, fails_at}
+use Rattle.std.proofs.lemmas.Bool.{false_from_ne_true}
 use Rattle.regular_check.proofs.tally.are_each_twice.Goals as goal
 
 -- what the tallies tell of one of the cells
@@ -20,7 +21,7 @@ told space dim cells facets i tallies h low cell l room t e =
 pub returns-then-not-are_double : goal.returns-then-not-are_double
 returns-then-not-are_double c =
     let same = told c.args.space.now c.args.dim c.args.cells.now c.facets.result.now c.loop-cell.cell-index c.args.tallies.now c.facets.ensures.valid c.requires.low c.requires.cells c.loop-cell-test.true c.requires.room c.requires.tally c.facets.ensures.facets in
-    sym (not_true (each_twice c.args.space.now c.args.dim c.args.cells.now)
+    sym (false_from_ne_true (each_twice c.args.space.now c.args.dim c.args.cells.now)
     (λ e. fails_at (λ ch. list_all (λ f. eqb (length (sharing c.args.space.now c.args.dim c.args.cells.now f)) 2) (facets_of c.args.space.now c.args.dim ch)) c.args.cells.now c.loop-cell.cell-index c.loop-cell-test.true
     (sym same ∙ (sym c.are_double.ensures ∙ c.if-not-are_double.true)) e))
 

@@ -1,6 +1,6 @@
 use Rattle.std.proofs.Common.{take}
 use Rattle.regular_check.specs.Tally.{none}
-use Rattle.regular_check.proofs.Touch.{IsTouched}
+use Rattle.number_lists.proofs.CallerLemmas.{IsTouched}
 use Rattle.regular_check.proofs.tally.clear_facets.Given as goal
 
 abbrev pub invariant-loop-facet : goal.invariant-loop-facet

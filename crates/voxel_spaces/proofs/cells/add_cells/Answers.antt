@@ -2,7 +2,8 @@ use Rattle.std.proofs.Common.{◌≡◌, ℕ, List, true, take, get_or, Result, 
 use Rattle.std.proofs.lemmas.Bool.{false≢true}
 use Rattle.std.proofs.lemmas.List.{take_more}
 use Rattle.face_poset.specs.declared.builder.BuildFault.{BuildFault}
-use Rattle.regular_check.proofs.Members.{In, at-In}
+use Rattle.number_lists.specs.Members.{In}
+use Rattle.number_lists.proofs.CallerLemmas.{at-In}
 use Rattle.voxel_spaces.specs.Places.{stage}
 use Rattle.voxel_spaces.proofs.Finding.{from_In}
 use Rattle.voxel_spaces.proofs.SpaceStages.{stage-idle}

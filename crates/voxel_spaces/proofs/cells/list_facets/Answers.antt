@@ -1,6 +1,6 @@
 use Rattle.std.proofs.Common.{◌≡◌, ◌≤◌, ◌+◌, ◌-◌, ◌/◌, ◌%◌, ◌++◌, ◌∷◌, [], ℕ, List, map, drop, get_or, subst, ap, sym, ◌∙◌, arith, append_assoc, ◌*◌}
 use Rattle.std.proofs.lemmas.Nat.{div-add-mod'}
-use Rattle.regular_check.proofs.Members.{In, here, there}
+use Rattle.number_lists.specs.Members.{In, here, there}
 use Rattle.voxel_spaces.specs.Places.{facets_from, facet_places, number_among}
 use Rattle.voxel_spaces.proofs.BoxLevels.{facets_from-odd, facets_from-even}
 use Rattle.voxel_spaces.proofs.Finding.{from_In}

@@ -1,5 +1,5 @@
 use Rattle.std.proofs.Common.{◌≡◌, ◌≤◌, ◌++◌, ℕ, drop, map}
-use Rattle.regular_check.proofs.Members.{In}
+use Rattle.number_lists.specs.Members.{In}
 use Rattle.voxel_spaces.specs.Places.{facets_from, facet_places, number_among}
 use Rattle.voxel_spaces.proofs.cells.list_facets.Given as goal
 
