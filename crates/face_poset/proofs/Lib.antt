@@ -10,4 +10,3 @@ pub mod SpaceLemmas
 pub mod Spelling
 pub mod TextLemmas
 pub mod Values
-pub mod Writing

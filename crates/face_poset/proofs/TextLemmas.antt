@@ -16,6 +16,12 @@ facets-split facets i l =
     ∙ (sym (flat_map-append F (take i facets) (get_or facets i 0 ∷ drop (i + 1) facets))
     ∙ ap (flat_map F) (ap (λ (xs : List ℕ). take i facets ++ xs) (sym (drop_more facets i 0 l)) ∙ take-append-drop i facets))
 
+-- the facets up to an index, and one more
+pub facets-more : (facets : List ℕ) (i d : ℕ) → i < length facets → facet_texts (take i facets) ++ (44 ∷ decimal (get_or facets i d)) ≡ facet_texts (take (i + 1) facets)
+facets-more facets i d l =
+    let F : ℕ → List ℕ = λ f. 44 ∷ decimal f in
+    sym (ap (flat_map F) (take_more facets i d l) ∙ (flat_map-append F (take i facets) (get_or facets i d ∷ []) ∙ ap (λ (xs : List ℕ). flat_map F (take i facets) ++ xs) (append-nil (F (get_or facets i d)))))
+
 -- texts, each with a comma before it
 abbrev pub tails : List (List ℕ) → List ℕ
 tails texts = flat_map (λ text. 44 ∷ text) texts

@@ -9,6 +9,7 @@
 mod bytes;
 mod copying;
 mod entries;
+mod held;
 mod host;
 mod paper;
 mod pieces;
@@ -17,6 +18,7 @@ mod source;
 mod steady;
 
 pub use bytes::Bytes;
+pub use held::Held;
 pub use host::{HostSink, HostSource};
 pub use paper::{Paper, Tally};
 pub use pieces::{Piece, write_pieces};

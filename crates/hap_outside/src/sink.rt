@@ -27,7 +27,7 @@ pub trait Sink {
         ensures cause { HasCause (faults self.old) (faults self.new) result };
 }
 
-/// Appends the whole piece, or a prefix of it and fails.
+/// Appends the whole piece, or less than all of it and fails.
 pub fn write_all<K: Sink>(sink: &mut K, piece: &[u8]) -> Result<(), Failed>
     ensures bytes { Writes (K.written sink.old) (K.written sink.new) piece.now result }
     ensures cause { HasCause (K.faults sink.old) (K.faults sink.new) result }
@@ -40,7 +40,7 @@ pub fn write_all<K: Sink>(sink: &mut K, piece: &[u8]) -> Result<(), Failed>
     Ok(())
 }
 
-/// Appends the decimal text of the value, with a minus sign below 0, or a prefix of it and fails.
+/// Appends the decimal text of the value, with a minus sign below 0, or less than all of it and fails.
 pub fn write_number<K: Sink>(sink: &mut K, value: i128) -> Result<(), Failed>
     ensures bytes { Writes (K.written sink.old) (K.written sink.new) (signed_decimal value) result }
     ensures cause { HasCause (K.faults sink.old) (K.faults sink.new) result }

@@ -1,6 +1,6 @@
 use Rattle.std.proofs.Common.{◌++◌, ◌∙◌, codes, ap, refl}
 use Rattle.std.specs.Prelude.{decimal}
-use Rattle.face_poset.proofs.Writing.{writes_last, writes_stop}
+use Rattle.hap_outside.proofs.CallerLemmas.{writes_last, writes_stop}
 use Rattle.regular_check.specs.Components.{component_count}
 use Rattle.hap_cli.specs.Answers.{cells_text, check_text}
 use Rattle.hap_cli.proofs.cells.write_check.Goals as goal

@@ -1,5 +1,5 @@
 use Rattle.std.proofs.Common.{◌++◌, refl}
-use Rattle.face_poset.proofs.Writing.{writes_last, writes_stop}
+use Rattle.hap_outside.proofs.CallerLemmas.{writes_last, writes_stop}
 use Rattle.hap_cli.specs.Answers.{chains_text, betti_text}
 use Rattle.hap_cli.proofs.making.write_homology.Goals as goal
 

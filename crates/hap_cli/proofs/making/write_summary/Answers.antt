@@ -1,5 +1,5 @@
 use Rattle.std.proofs.Common.{◌++◌, ap}
-use Rattle.face_poset.proofs.Writing.{writes_last, writes_stop}
+use Rattle.hap_outside.proofs.CallerLemmas.{writes_last, writes_stop}
 use Rattle.hap_cli.specs.Answers.{cells_text, torus_text, chains_text, betti_text, summary_text}
 use Rattle.hap_cli.proofs.making.write_summary.Goals as goal
 

@@ -27,7 +27,7 @@ writes_stop a b first rest total f (Ok x) err w e = absurd (false≢true err)
 writes_stop {U = U} a b first rest total f (Err g) err w e =
     subst (λ text. Writes {T = U} a b text (Err g)) e (record {
       whole = tt;
-      part = (w.part.0, rw length-append (omega (arith, w.part.1)), subst (Appends a b) (sym (take-append-le w.part.0 first rest w.part.1)) w.part.2);
+      part = (w.part.0, rw length-append (omega (arith, w.part.1)), subst (Appends a b) (sym (take-append-le w.part.0 first rest (omega (arith, w.part.1)))) w.part.2);
     })
 
 -- a text was written whole, and a front of the next one
