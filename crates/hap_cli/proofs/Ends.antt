@@ -1,5 +1,5 @@
 -- How a run ends, from the stage where a command stops and from what it writes.
-use Rattle.std.proofs.Common.{◌≡◌, ℕ, ◌≤◌, true, false, List, length, take, None, Some, Result, Ok, Err, refl, sym, ap, ◌∙◌, subst, inl, inr, arith}
+use Rattle.std.proofs.Common.{◌≡◌, ℕ, ◌≤◌, ◌<◌, true, false, List, length, take, None, Some, Result, Ok, Err, refl, sym, ap, ◌∙◌, subst, inl, inr, arith}
 use Rattle.std.specs.Prelude.{IsSomeAnd, IfSome, IsNone, MatchOption, ◌⊎◌}
 use Rattle.std.specs.declared.option.Option.{Option}
 use Rattle.std.specs.Io.KnownBytes.{Appends, Keeps}
@@ -64,8 +64,8 @@ made_end size modulus write written WriteFault h k = absurd h
 -- a prefix of an answer was written
 pub wrote_front : (asked : Asked) (store : Option Store) (old new : Option (List ℕ)) (stage : List ℕ → Result (List (List (List ℕ))) Refusal) (space : List (List (List ℕ))) (text : List ℕ)
     → OnNamed (input_name asked) (told_store asked store) (λ told. stage told ≡ Ok space) → ((bytes : List ℕ) → stage bytes ≡ Ok space → Answers asked bytes text)
-    → ((k : ℕ) × (k ≤ length text) × Appends old new (take k text))
-    → OnInput asked store (λ bytes. (text : List ℕ) × Answers asked bytes text × (k : ℕ) × (k ≤ length text) × Appends old new (take k text))
+    → ((k : ℕ) × (k < length text) × Appends old new (take k text))
+    → OnInput asked store (λ bytes. (text : List ℕ) × Answers asked bytes text × (k : ℕ) × (k < length text) × Appends old new (take k text))
 wrote_front asked store old new stage space text h f w =
     on_named (input_name asked) (told_store asked store) (λ told. stage told ≡ Ok space) _ (λ bytes e. (text, f bytes e, w.0, w.1, w.2)) h
 
@@ -89,7 +89,7 @@ tells old new line before now (Ok x) w h = record {
   whole = inr w.whole;
   part = (length line, omega arith, subst (Appends old new) (sym (take_all (length line) line (omega arith))) w.whole);
 }
-tells old new line before now (Err e) w h = record { whole = inl h.failed; part = w.part }
+tells old new line before now (Err e) w h = record { whole = inl h.failed; part = (w.part.0, omega (arith, w.part.1), w.part.2) }
 
 -- what is known of the command that was asked for
 pub asked_end : (o : Option Asked) (asked : Asked) (P : Asked → Type 0) (N : Type 0) → o ≡ Some asked → P asked → MatchOption o N P

@@ -1,5 +1,5 @@
 -- How a run ends: its status, its line, and the cause of each.
-use Rattle.std.specs.Prelude.{◌≡◌, ◌⊎◌, ◌≤◌, ℕ, List, [], codes, length, take, None, ⊤}
+use Rattle.std.specs.Prelude.{◌≡◌, ◌⊎◌, ◌≤◌, ◌<◌, ℕ, List, [], codes, length, take, None, ⊤}
 use Rattle.std.specs.declared.option.Option.{Option}
 use Rattle.std.specs.declared.option.Option.TheVariants.{Some}
 use Rattle.std.specs.declared.result.Result.{Result}
@@ -116,5 +116,5 @@ IsEnd asked store read write old new (Refused cause) =
 IsEnd asked store read write old new ReadFault = read × Keeps old new
 IsEnd asked store read write old new WriteFault =
     write × OnInput asked store (λ bytes. (text : List ℕ) × Answers asked bytes text
-    × (n : ℕ) × (n ≤ length text) × Appends old new (take n text))
+    × (n : ℕ) × (n < length text) × Appends old new (take n text))
 IsEnd asked store read write old new Memory = Keeps old new
