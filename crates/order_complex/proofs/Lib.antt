@@ -10,14 +10,12 @@ mod Classes
 mod Cofaces
 mod Compare
 mod Evaluation
-mod Examples
 mod Extended
 mod FaceIds
 mod FacesBelow
 mod Graded
 mod Held
 mod Integers
-mod LineLemmas
 mod Members
 mod Numbers
 mod Ordered

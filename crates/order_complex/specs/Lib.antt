@@ -8,5 +8,3 @@ pub mod Listing
 pub mod Sequences
 pub mod Ranks
 pub mod Laws
-pub mod Lines
-pub mod LineLaws

@@ -1,5 +1,4 @@
 // Laws of the order complex, each the contract of a function with an empty body.
-ghost use Rattle.order_complex.specs.LineLaws.{EntriesAreCochains, ClassLinesAreCocycles, ProductLinesAreProducts, TestsAreEquations};
 ghost use Rattle.order_complex.specs.Laws.{FacesAreBelow, BoundaryAlternates, BoundariesAreCycles, ChainsAreOrdered, ChainsAreSequences, CoboundariesAreClosed, CoboundaryIsAdjoint, BettiIsOneNumber, BettiByRanks};
 
 use small_field::Field;
@@ -47,24 +46,4 @@ pub fn betti_is_one_number<F: Field>()
 /// The Betti number is the number of chains less the ranks of the coboundaries into and out of the degree.
 pub fn betti_by_ranks<F: Field>()
     ensures { BettiByRanks F.ops }
-{}
-
-/// The entries of a cochain, read back, are the cochain, and the cochain of entries has these entries.
-pub fn entries_are_cochains<F: Field>()
-    ensures { EntriesAreCochains F.ops }
-{}
-
-/// The left side of a class line of a certificate is a cocycle.
-pub fn class_lines_are_cocycles<F: Field>()
-    ensures { ClassLinesAreCocycles F.ops }
-{}
-
-/// A product line of a certificate gives the coefficients of the cup product, modulo coboundaries.
-pub fn product_lines_are_products<F: Field>()
-    ensures { ProductLinesAreProducts F.ops }
-{}
-
-/// Where the test of a rank line, or of a class line on its cycle and its pairing, holds, the equations hold.
-pub fn tests_are_equations<F: Field>()
-    ensures { TestsAreEquations F.ops }
 {}

@@ -16,7 +16,6 @@ pub use chains::Chains;
 pub use fault::ChainFault;
 pub use laws::{
     betti_by_ranks, betti_is_one_number, boundaries_are_cycles, boundary_alternates,
-    chains_are_ordered, chains_are_sequences, class_lines_are_cocycles, coboundaries_are_closed,
-    coboundary_is_adjoint, entries_are_cochains, faces_are_below, product_lines_are_products,
-    tests_are_equations,
+    chains_are_ordered, chains_are_sequences, coboundaries_are_closed, coboundary_is_adjoint,
+    faces_are_below,
 };

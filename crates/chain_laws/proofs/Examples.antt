@@ -4,7 +4,7 @@ use Rattle.std.proofs.Common.{◌≡◌, ℕ, List, [], ◌∷◌, true, false, 
 use Rattle.small_field.specs.Field.{Ops}
 use Rattle.small_field.specs.Prime.{mod_ops}
 use Rattle.order_complex.specs.Chains.{chains_of}
-use Rattle.order_complex.specs.Lines.{rank_holds, cocycle_holds, cycle_holds, pairing_holds, product_holds, count_holds}
+use Rattle.chain_laws.specs.Lines.{rank_holds, cocycle_holds, cycle_holds, pairing_holds, product_holds, count_holds}
 
 abbrev circle : List (List (List ℕ))
 circle = ([] ∷ [] ∷ []) ∷ ((1 ∷ 2 ∷ []) ∷ (1 ∷ 2 ∷ []) ∷ []) ∷ [] ∷ [] ∷ []

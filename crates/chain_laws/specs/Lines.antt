@@ -1,6 +1,20 @@
--- The equations of a certificate of homology, line by line. A side of a line is a list of entries: the number of a chain,
--- counted from 1, and an element that is not 0, by increasing numbers. `chains` are those of the degree of the line, `below`
--- those of one degree less (none below degree 0) and `next` those of one degree more.
+-- The equations of a certificate of homology, line by line. F is the arithmetic of a field. `chains` are those of the degree
+-- of the line, `below` those of one degree less (none below degree 0) and `next` those of one degree more. A side of a line is
+-- a list of entries: the number of a chain, counted from 1, and an element that is not 0, by increasing numbers.
+--   element_at entries number                       the element at a number, or 0
+--   cochain_of count entries                        the cochain on so many chains with these entries
+--   AreEntries F count entries                      the entries have numbers from 1 to the count, and elements that are not 0
+--   all_zero xs                                     each element is 0
+--   value_on F cochain entries                      the value of a cochain on a chain with coefficients
+--   rank_holds F chains next before left right      a rank line, where `before` are the right sides of the lines before
+--   cocycle_holds F chains next left                a class line: its left side is a cocycle
+--   cycle_holds F below chains right                a class line: its right side is a cycle
+--   pairing_holds F chains rights place left        a class line at a place from 0 on: 1 on its own right side, 0 on the others
+--   product_holds F i chains_i a chains_j b below chains lefts coefficients bound
+--                                                   a product line: of a and b, of degrees i and j, in the left sides of degree i + j
+--   count_holds chains rank_last rank_next classes  a degree: how many rank lines and class lines it has
+--   chains_below space degree                       the chains of one degree less
+--   cochain_in space degree entries                 the cochain of a degree with these entries
 use Rattle.std.specs.Prelude.{ℕ, zero, suc, ◌+◌, ◌<◌, ◌≤◌, ◌==◌, ◌&&◌, List, [], ◌∷◌, Bool, not, cond, map, length, All}
 use Rattle.std.specs.List.{list_all}
 use Rattle.std.specs.Str.{bytes_eq}

@@ -1,10 +1,11 @@
--- Entries and cochains, and what the tests of lines say.
-use Rattle.std.proofs.Common.{◌≡◌, ◌≢◌, ℕ, zero, suc, ◌+◌, ◌<◌, ◌≤◌, List, [], ◌∷◌, ◌++◌, Bool, true, false, cond, not, ◌&&◌, eqb, map, length, get_or, replicate, All, refl, ap, sym, ◌∙◌, subst, arith, eq-eqb}
+-- Entries and cochains, and the test of each line with its equations.
+use Rattle.std.proofs.Common.{◌≡◌, ◌≢◌, ℕ, zero, suc, ◌+◌, ◌<◌, ◌≤◌, List, [], ◌∷◌, ◌++◌, Bool, true, false, cond, not, ◌&&◌, ◌↔◌, eqb, map, length, get_or, replicate, All, refl, ap, sym, ◌∙◌, subst, arith, eq-eqb}
 use Rattle.std.specs.Prelude.{⊤}
 use Rattle.std.specs.List.{AllByRecursion, list_all, range_with_len}
 use Rattle.std.specs.List.Sorted.{IsStrictlyIncreasing}
 use Rattle.std.proofs.lemmas.Bool.{eqb-true, ne_eqb}
 use Rattle.std.proofs.lemmas.List.{length-map}
+use Rattle.std.proofs.lemmas.Slice.Eq.{bytes_eq-Decides}
 use Rattle.std.proofs.lemmas.List.Elements.{All-head, All-tail}
 use Rattle.small_field.specs.Field.{Ops, IsField}
 use Rattle.small_field.proofs.CallerLemmas.{zero_below}
@@ -18,10 +19,11 @@ use Rattle.order_complex.specs.Cochains.{boundary_on, coboundary, coboundary_at,
 use Rattle.order_complex.specs.Cochains.{mark as mark_of}
 use Rattle.order_complex.specs.Cup.{cup_at}
 use Rattle.order_complex.specs.Homology.{IsClass}
-use Rattle.order_complex.specs.Lines.{element_at, cochain_of, AreEntries, all_zero, cochain_in, value_on, rank_holds}
-use Rattle.order_complex.specs.LineLaws.{EntriesAreCochains, ClassLinesAreCocycles, ProductLinesAreProducts, TestsAreEquations}
+use Rattle.chain_laws.specs.Lines.{element_at, cochain_of, AreEntries, all_zero, cochain_in, value_on}
+use Rattle.chain_laws.specs.Laws.{EntriesAreCochains, ClassLinesAreCocycles, ProductLinesAreProducts, TestsAreEquations}
+use Rattle.order_complex.specs.Values.{entries_from, entry_of}
 use Rattle.order_complex.proofs.Members.{range-member}
-use Rattle.order_complex.proofs.Twice.{bytes_eq-true, map-members}
+use Rattle.order_complex.proofs.Twice.{map-members}
 
 -- ---- a cochain, its entries, and back
 
@@ -181,10 +183,10 @@ module _ (F : Ops) (L : IsField F) where
         elements = subst (λ k. IsVector F k cs) (sym (length-map lefts (cochain_of n))) (cochain-vector (length lefts) coefficients hc);
         rest = d;
         coboundary = (cochain_in space degree bound, cochain-vector (length (chains_of space degree)) bound hb, refl);
-        is_sum = bytes_eq-true product (plus_scaled F 1 d (combination F n cs zs)) t;
+        is_sum = (bytes_eq-Decides product (plus_scaled F 1 d (combination F n cs zs))).0 t;
       })
 
-  -- ---- the equations of rank lines, and of class lines
+  -- ---- the test of each line, and its equations
 
   both : (a b : Bool) → (a && b) ≡ true → (a ≡ true) × (b ≡ true)
   both true b h = (refl, h)
@@ -193,23 +195,41 @@ module _ (F : Ops) (L : IsField F) where
   not-zero-from : (x : ℕ) → not (eqb x 0) ≡ true → x ≢ 0
   not-zero-from x h e = let yes : eqb x 0 ≡ true = eq-eqb x 0 e in let no_more : not true ≡ true = ap not (sym yes) ∙ h in absurd (cc)
 
+  from-not-zero : (x : ℕ) → x ≢ 0 → not (eqb x 0) ≡ true
+  from-not-zero x ne = ap not (differ x 0 ne)
+
   all-zero-from : (f : List (ℕ × ℕ) → ℕ) (ts : List (List (ℕ × ℕ))) → list_all (λ t. eqb (f t) 0) ts ≡ true → AllByRecursion (λ t. f t ≡ 0) ts
   all-zero-from f [] h = tt
   all-zero-from f (t ∷ ts) h = let r = both (eqb (f t) 0) (list_all (λ t. eqb (f t) 0) ts) h in (eqb-true (f t) 0 r.0, all-zero-from f ts r.1)
 
-  rank-parts : (chains next : List (List ℕ)) (before : List (List (ℕ × ℕ))) (left right : List (ℕ × ℕ)) → rank_holds F chains next before left right ≡ true
-      → (value_on F (coboundary_on F chains next (cochain_of (length chains) left)) right ≢ 0) × AllByRecursion (λ earlier. value_on F (coboundary_on F chains next (cochain_of (length chains) left)) earlier ≡ 0) before
-  rank-parts chains next before left right h =
-      let value : List (ℕ × ℕ) → ℕ = value_on F (coboundary_on F chains next (cochain_of (length chains) left)) in
-      let r = both (not (eqb (value right) 0)) (list_all (λ earlier. eqb (value earlier) 0) before) h in
-      (not-zero-from (value right) r.0, all-zero-from value before r.1)
+  from-all-zero : (f : List (ℕ × ℕ) → ℕ) (ts : List (List (ℕ × ℕ))) → AllByRecursion (λ t. f t ≡ 0) ts → list_all (λ t. eqb (f t) 0) ts ≡ true
+  from-all-zero f [] h = refl
+  from-all-zero f (t ∷ ts) h = ap (λ b. b && list_all (λ t. eqb (f t) 0) ts) (eq-eqb (f t) 0 h.0) ∙ from-all-zero f ts h.1
+
+  zeros-are : (n : ℕ) → all_zero (replicate n 0) ≡ true
+  zeros-are zero = refl
+  zeros-are (suc n) = zeros-are n
+
+  -- a list of so many elements is tested to be zero exactly where it is
+  zero-test : (n : ℕ) (xs : List ℕ) → length xs ≡ n → (all_zero xs ≡ true) ↔ (xs ≡ replicate n 0)
+  zero-test n xs l = (λ h. zeros-from xs h ∙ ap (λ k. replicate k 0) l, λ e. ap all_zero e ∙ zeros-are n)
+
+  rank-test : (value : List (ℕ × ℕ) → ℕ) (before : List (List (ℕ × ℕ))) (right : List (ℕ × ℕ))
+      → ((not (eqb (value right) 0) && list_all (λ earlier. eqb (value earlier) 0) before) ≡ true) ↔ ((value right ≢ 0) × AllByRecursion (λ earlier. value earlier ≡ 0) before)
+  rank-test value before right = (
+    λ h. let r = both (not (eqb (value right) 0)) (list_all (λ earlier. eqb (value earlier) 0) before) h in (not-zero-from (value right) r.0, all-zero-from value before r.1),
+    λ r. ap (λ b. b && list_all (λ earlier. eqb (value earlier) 0) before) (from-not-zero (value right) r.0) ∙ from-all-zero value before r.1,
+  )
 
   pub tests_are_equations : TestsAreEquations F
   tests_are_equations = record {
-    own = λ chains next before left right h. (rank-parts chains next before left right h).0;
-    before = λ chains next before left right h. (rank-parts chains next before left right h).1;
-    cycle = λ below chains right h.
-        zeros-from (boundary_on F below chains (cochain_of (length chains) right)) h
-        ∙ ap (λ n. replicate n 0) (length-map below (λ chain. evaluation F (coboundary_on F below chains (mark_of below chain)) (cochain_of (length chains) right)));
-    pairing = λ chains rights place left h. bytes_eq-true (map (value_on F (cochain_of (length chains) left)) rights) (mark (length rights) place) h;
+    rank = λ chains next before left right. rank-test (value_on F (coboundary_on F chains next (cochain_of (length chains) left))) before right;
+    cocycle = λ chains next left. zero-test (length next) (coboundary_on F chains next (cochain_of (length chains) left)) (length-map next (coboundary_at F chains (cochain_of (length chains) left)));
+    cycle = λ below chains right.
+        zero-test (length below) (boundary_on F below chains (cochain_of (length chains) right))
+        (length-map below (λ chain. evaluation F (coboundary_on F below chains (mark_of below chain)) (cochain_of (length chains) right)));
+    pairing = λ chains rights place left. bytes_eq-Decides (map (value_on F (cochain_of (length chains) left)) rights) (mark (length rights) place);
+    product = λ i chains_i a chains_j b below chains lefts coefficients bound.
+        bytes_eq-Decides (map (cup_at F i chains_i (cochain_of (length chains_i) a) chains_j (cochain_of (length chains_j) b)) chains)
+        (plus_scaled F 1 (coboundary_on F below chains (cochain_of (length below) bound)) (combination F (length chains) (cochain_of (length lefts) coefficients) (map (cochain_of (length chains)) lefts)));
   }

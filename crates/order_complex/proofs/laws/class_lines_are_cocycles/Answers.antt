@@ -1,5 +1,0 @@
-use Rattle.order_complex.proofs.LineLemmas.{class_lines_are_cocycles}
-use Rattle.order_complex.proofs.laws.class_lines_are_cocycles.Goals as goal
-
-pub returns : goal.returns
-returns g c = class_lines_are_cocycles g.F.Field.ops g.met.F.Field.laws

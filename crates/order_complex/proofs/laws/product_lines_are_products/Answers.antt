@@ -1,5 +1,0 @@
-use Rattle.order_complex.proofs.LineLemmas.{product_lines_are_products}
-use Rattle.order_complex.proofs.laws.product_lines_are_products.Goals as goal
-
-pub returns : goal.returns
-returns g c = product_lines_are_products g.F.Field.ops g.met.F.Field.laws
