@@ -21,9 +21,11 @@ use Rattle.order_complex.specs.Cup.{cup_at}
 use Rattle.order_complex.specs.Homology.{IsClass}
 use Rattle.chain_laws.specs.Lines.{element_at, cochain_of, AreEntries, all_zero, cochain_in, value_on}
 use Rattle.chain_laws.specs.Laws.{EntriesAreCochains, ClassLinesAreCocycles, ProductLinesAreProducts, TestsAreEquations}
-use Rattle.order_complex.specs.Values.{entries_from, entry_of}
-use Rattle.order_complex.proofs.Members.{range-member}
-use Rattle.order_complex.proofs.Twice.{map-members}
+
+-- two functions that agree on the n numbers from a on
+map-range : (f g : ℕ → ℕ) (a n : ℕ) → ((m : ℕ) → a ≤ m → m < a + n → f m ≡ g m) → map f (range_with_len a n) ≡ map g (range_with_len a n)
+map-range f g a zero h = refl
+map-range f g a (suc n) h = ap (λ x. x ∷ map f (range_with_len (a + 1) n)) (h a (omega arith) (omega arith)) ∙ ap (λ xs. g a ∷ xs) (map-range f g (a + 1) n (λ m low high. h m (omega arith) (omega arith)))
 
 -- ---- a cochain, its entries, and back
 
@@ -51,7 +53,7 @@ there-from a (x ∷ xs) =
     let later : List (ℕ × ℕ) = entries_from (a + 1) xs in
     ap (λ y. y ∷ map (element_at (entry_of a x ++ later)) (range_with_len (a + 1) (length xs))) (element-here a x later (element-before (a + 1) a xs (omega arith)))
     ∙ ap (λ ys. x ∷ ys)
-    (map-members (element_at (entry_of a x ++ later)) (element_at later) (range_with_len (a + 1) (length xs)) (λ m h. element-later a x m later (λ e. let r = range-member (a + 1) (length xs) m h in omega (arith, r.0)))
+    (map-range (element_at (entry_of a x ++ later)) (element_at later) (a + 1) (length xs) (λ m low high. element-later a x m later (λ e. omega arith))
     ∙ there-from (a + 1) xs)
 
 -- ---- entries, their cochain, and back
@@ -116,8 +118,7 @@ back-from a (suc n) (e ∷ entries) h = by_test (eqb e.0 a) refl (λ es g. back-
         ap (λ es. es ++ entries_from (a + 1) (map (element_at (e ∷ entries)) (range_with_len (a + 1) n))) (not-zero e.1 a h.2 ∙ ap (λ k. (k, e.1) ∷ []) (sym same))
         ∙ ap (λ es. e ∷ es)
         (ap (entries_from (a + 1))
-        (map-members (element_at (e ∷ entries)) (element_at entries) (range_with_len (a + 1) n)
-        (λ m k. ap (λ t. cond t e.1 (element_at entries m)) (ne_eqb e.0 m (λ s. let r = range-member (a + 1) n m k in omega (arith, r.0, same)))))
+        (map-range (element_at (e ∷ entries)) (element_at entries) (a + 1) n (λ m low high. ap (λ t. cond t e.1 (element_at entries m)) (ne_eqb e.0 m (λ s. omega (arith, same)))))
         ∙ later entries rest)
     by_test false t later =
         let ne : e.0 ≢ a = λ s. let yes : eqb e.0 a ≡ true = eq-eqb e.0 a s in cc in
@@ -196,7 +197,7 @@ module _ (F : Ops) (L : IsField F) where
   not-zero-from x h e = let yes : eqb x 0 ≡ true = eq-eqb x 0 e in let no_more : not true ≡ true = ap not (sym yes) ∙ h in absurd (cc)
 
   from-not-zero : (x : ℕ) → x ≢ 0 → not (eqb x 0) ≡ true
-  from-not-zero x ne = ap not (differ x 0 ne)
+  from-not-zero x ne = ap not (ne_eqb x 0 ne)
 
   all-zero-from : (f : List (ℕ × ℕ) → ℕ) (ts : List (List (ℕ × ℕ))) → list_all (λ t. eqb (f t) 0) ts ≡ true → AllByRecursion (λ t. f t ≡ 0) ts
   all-zero-from f [] h = tt

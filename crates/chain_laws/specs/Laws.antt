@@ -13,7 +13,7 @@ use Rattle.order_complex.specs.Cochains.{boundary_on, coboundary_on}
 use Rattle.order_complex.specs.Cup.{IsProduct, cup_at}
 use Rattle.order_complex.specs.Homology.{IsCocycle}
 use Rattle.chain_laws.specs.Lines.{AreEntries, cochain_of, cochain_in, value_on, rank_holds, cocycle_holds, cycle_holds, pairing_holds, product_holds}
-use Rattle.order_complex.specs.Values.{entries_from}
+use Rattle.small_field.specs.Values.{entries_from}
 
 -- the entries of a cochain, read back, are the cochain, and the other way round
 pub record EntriesAreCochains (F : Ops) : Type 0 where

@@ -21,7 +21,7 @@ use Rattle.order_complex.specs.declared.fault.ChainFault.{ChainFault}
 use Rattle.order_complex.specs.declared.fault.ChainFault.TheVariants as in_chains
 use Rattle.order_complex.specs.Chains.{chain_count}
 use Rattle.order_complex.specs.Complex.{IsRefused}
-use Rattle.plain_betti.specs.Numbers.{coboundary_entries}
+use Rattle.order_complex.specs.Numbers.{coboundary_entries}
 use Rattle.hap_outside.specs.Stores.{Store}
 use Rattle.hap_cli.specs.declared.outcome.Outcome.{Outcome}
 use Rattle.hap_cli.specs.declared.outcome.Outcome.TheVariants.{Done, Usage, Refused, ReadFault, WriteFault, Memory}

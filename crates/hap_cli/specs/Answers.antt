@@ -10,8 +10,8 @@ use Rattle.order_complex.specs.Chains.{chains_of}
 use Rattle.tuple_spaces.specs.Torus.{torus_of}
 use Rattle.regular_check.specs.Components.{component_count}
 use Rattle.small_field.specs.Prime.{mod_ops}
-use Rattle.plain_betti.specs.declared.numbers.Betti.{Betti}
-use Rattle.plain_betti.specs.Numbers.{AreBetti}
+use Rattle.order_complex.specs.declared.betti.Betti.{Betti}
+use Rattle.order_complex.specs.Numbers.{AreBetti}
 use Rattle.hap_words.specs.Asked.{Asked, cells, check, betti, make}
 use Rattle.hap_cli.specs.Spaces.{reading, regular_reading}
 

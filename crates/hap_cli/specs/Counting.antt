@@ -4,7 +4,7 @@ use Rattle.std.specs.declared.result.Result.{Result}
 use Rattle.std.specs.declared.result.Result.TheVariants.{Ok, Err}
 use Rattle.std.specs.declared.option.Option.{Option}
 use Rattle.std.specs.declared.option.Option.TheVariants.{Some, None}
-use Rattle.plain_betti.specs.Numbers.{coboundary_entries}
+use Rattle.order_complex.specs.Numbers.{coboundary_entries}
 use Rattle.hap_outside.specs.Stores.{Store}
 use Rattle.hap_words.specs.Asked.{Asked, betti, make}
 use Rattle.hap_cli.specs.declared.refusal.Refusal.{Refusal}

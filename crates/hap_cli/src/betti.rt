@@ -1,7 +1,7 @@
 // The command `betti`.
 ghost use Rattle.std.specs.Prelude.{◌≡◌, ◌≤◌, ◌+◌, true, IfOk, IfErr, OnOk, Ok};
 ghost use Rattle.small_field.specs.Prime.{mod_ops};
-ghost use Rattle.plain_betti.specs.Numbers.{AreBetti};
+ghost use Rattle.order_complex.specs.Numbers.{AreBetti};
 ghost use Rattle.hap_outside.specs.Causes.{HasCause};
 ghost use Rattle.hap_outside.specs.Writes.{Writes};
 ghost use Rattle.small_field.specs.Modulus.{is_modulus};
@@ -13,7 +13,7 @@ ghost use Rattle.hap_cli.specs.Outcomes.{Fails};
 use crate::outcome::Outcome;
 use face_poset::Space;
 use hap_outside::{Failed, Piece, Sink, write_pieces};
-use plain_betti::Betti;
+use order_complex::Betti;
 use reduced_betti::betti_of;
 use std::alloc::Global;
 use std::sync::ledger::Ledger;

@@ -1,17 +1,9 @@
 -- What other crates may cite of the proofs here, by topic.
 
--- ---- faces by ids
-
--- the cell with an id: its dimension and number
-pub use Rattle.order_complex.proofs.FaceIds.{IdOf, cell_with}
--- the faces of the cell with an id, and that they are those of its dimension and number
-pub use Rattle.order_complex.proofs.FaceIds.{faces_at, faces_at-cell}
--- the members of a closure are cells of the space, of no greater dimension; facets of cells are cells of the space
-pub use Rattle.order_complex.proofs.FaceIds.{IsOf, closure-of, facets_of_all-range}
 -- ---- chains
 
--- a member of the chains of a degree is a sequence of cells, each a face of the next
-pub use Rattle.order_complex.proofs.Chained.{chains_of-member}
+-- no chain has five cells
+pub use Rattle.order_complex.proofs.Heights.{chains_of-four}
 -- sequences at different places of an ordered list differ
 pub use Rattle.order_complex.proofs.Ordered.{ordered-differ}
 -- the graded set has as many cells of a dimension as there are chains of the degree; its layer is the lists of facets
@@ -30,6 +22,4 @@ pub use Rattle.order_complex.proofs.Bases.{composition_is_zero, basis_of}
 -- ---- lists
 
 pub use Rattle.order_complex.proofs.Graded.{member-at}
-pub use Rattle.order_complex.proofs.Members.{map-member}
 pub use Rattle.order_complex.proofs.Cancel.{holds-reverse}
-pub use Rattle.order_complex.proofs.Twice.{bytes_eq-refl, bytes_eq-true}

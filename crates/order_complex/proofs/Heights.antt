@@ -7,7 +7,9 @@ use Rattle.face_poset.specs.Poset.{count, cell_count}
 use Rattle.face_poset.specs.Below.{closure, facets_of_all}
 use Rattle.order_complex.specs.Chains.{cells_before, id_of, faces_of, chains_of}
 use Rattle.order_complex.specs.Sequences.{Member, IsAbove, Follows}
-use Rattle.order_complex.proofs.CallerLemmas.{map-member, faces_at, faces_at-cell, cell_with, closure-of, facets_of_all-range, chains_of-member}
+use Rattle.order_complex.proofs.Chained.{chains_of-member}
+use Rattle.order_complex.proofs.FaceIds.{faces_at, faces_at-cell, cell_with, closure-of, facets_of_all-range}
+use Rattle.order_complex.proofs.Members.{map-member}
 
 module _ (space : List (List (List ℕ))) where
   before_rises : (d e : ℕ) → d ≤ e → cells_before space d ≤ cells_before space e

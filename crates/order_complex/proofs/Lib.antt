@@ -14,6 +14,7 @@ mod Extended
 mod FaceIds
 mod FacesBelow
 mod Graded
+mod Heights
 mod Held
 mod Integers
 mod Members

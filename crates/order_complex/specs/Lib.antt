@@ -8,3 +8,4 @@ pub mod Listing
 pub mod Sequences
 pub mod Ranks
 pub mod Laws
+pub mod Numbers

@@ -1,9 +1,11 @@
--- The Betti numbers of a space in the degrees from 0 to 3.
+-- The Betti numbers of a space in the degrees from 0 to 3, and the size of its coboundaries. F is the arithmetic of a field.
+--   AreBetti F space numbers    each number is the length of a basis of the cocycles of its degree modulo coboundaries
+--   coboundary_entries space    rows times columns of the three coboundaries, summed
 use Rattle.std.specs.Prelude.{ℕ, ◌+◌, ◌*◌, List, length}
 use Rattle.small_field.specs.Field.{Ops}
 use Rattle.order_complex.specs.Chains.{chains_of}
 use Rattle.order_complex.specs.Homology.{IsBetti}
-use Rattle.plain_betti.specs.declared.numbers.Betti.{Betti}
+use Rattle.order_complex.specs.declared.betti.Betti.{Betti}
 
 -- each is the length of a basis of the cocycles of its degree modulo coboundaries, on all chains of the order complex
 pub record AreBetti (F : Ops) (space : List (List (List ℕ))) (numbers : Betti) : Type 0 where

@@ -1,6 +1,7 @@
 //! The order complex of a space.
 #![tactic(auto)]
 
+mod betti;
 mod chains;
 mod faces;
 mod facets;
@@ -12,6 +13,7 @@ mod searching;
 mod uppers;
 mod values;
 
+pub use betti::Betti;
 pub use chains::Chains;
 pub use fault::ChainFault;
 pub use laws::{

@@ -8,9 +8,8 @@ use Rattle.order_complex.specs.Chains.{chains_of}
 use Rattle.order_complex.specs.Homology.{IsBetti}
 use Rattle.order_complex.specs.Laws.{BettiByRanks}
 use Rattle.order_complex.specs.Ranks.{rows_on, rows_of, rows_into}
-use Rattle.order_complex.proofs.CallerLemmas.{rows_on-matrix, length-rows_of, composition_is_zero}
+use Rattle.order_complex.proofs.CallerLemmas.{chains_of-four, rows_on-matrix, length-rows_of, composition_is_zero}
 use Rattle.plain_betti.specs.Ranks.{IsRank}
-use Rattle.plain_betti.proofs.Heights.{chains_of-four}
 
 module _ (F : Ops) (L : IsField F) (space : List (List (List ℕ))) where
   -- no rows have rank 0, and rows without columns have too

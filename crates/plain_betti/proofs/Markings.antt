@@ -3,14 +3,15 @@ use Rattle.std.proofs.Common.{◌≡◌, ◌≢◌, ℕ, ◌<◌, List, [], Bool
 use Rattle.std.specs.Str.{bytes_eq}
 use Rattle.std.proofs.lemmas.List.{same_lists, length-set, length-map, length-replicate, get_or-set_other, get_or-replicate, get_or-map, set-set, set-get_or}
 use Rattle.std.proofs.lemmas.Grind.{get_or-set_at}
+use Rattle.std.proofs.lemmas.Slice.Eq.{bytes_eq-Decides}
 use native.Mathlib.Decide.{dec_lt}
 use Prim.{yes, no}
 use Rattle.order_complex.specs.Order.{IsOrdered}
 use Rattle.order_complex.specs.Cochains.{mark}
-use Rattle.order_complex.proofs.CallerLemmas.{ordered-differ, bytes_eq-refl, bytes_eq-true}
+use Rattle.order_complex.proofs.CallerLemmas.{ordered-differ}
 
 not-same : (b c : List ℕ) (t : Bool) → bytes_eq b c ≡ t → b ≢ c → t ≡ false
-not-same b c true e ne = absurd (ne (bytes_eq-true b c e))
+not-same b c true e ne = absurd (ne ((bytes_eq-Decides b c).0 e))
 not-same b c false e ne = refl
 
 module _ (chains : List (List ℕ)) (i : ℕ) where
@@ -30,7 +31,7 @@ module _ (chains : List (List ℕ)) (i : ℕ) where
   there j d k e =
       get_or-set_at (replicate (length chains) 0) i j 1 d e (omega (arith, length-replicate {A = ℕ} (length chains) 0, k))
       ∙ sym (get_or-map (λ c. cond {A = ℕ} (bytes_eq c chosen) 1 0) chains j [] d k
-      ∙ ap (λ t. cond {A = ℕ} t 1 0) (ap (λ (n : ℕ). bytes_eq (get_or chains n []) chosen) e ∙ bytes_eq-refl chosen))
+      ∙ ap (λ t. cond {A = ℕ} t 1 0) (ap (λ (n : ℕ). bytes_eq (get_or chains n []) chosen) e ∙ (bytes_eq-Decides chosen chosen).1 refl))
 
   -- a 1 at the place of a chain among zeros
   pub marked : IsOrdered chains → i < length chains → one ≡ mark chains chosen

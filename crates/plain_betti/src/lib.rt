@@ -9,4 +9,4 @@
 mod numbers;
 mod ranks;
 
-pub use numbers::{Betti, betti_modulo, betti_numbers, betti_of};
+pub use numbers::{betti_modulo, betti_numbers, betti_of};

@@ -3,26 +3,17 @@ ghost use Rattle.std.specs.Prelude.{◌≡◌, ◌≤◌, ◌<◌, ◌+◌, IsTr
 ghost use Rattle.small_field.specs.Prime.{mod_ops};
 ghost use Rattle.order_complex.specs.Chains.{chain_count};
 ghost use Rattle.order_complex.specs.Complex.{IsRefused};
-ghost use Rattle.plain_betti.specs.Numbers.{AreBetti, coboundary_entries};
+ghost use Rattle.order_complex.specs.Numbers.{AreBetti, coboundary_entries};
 ghost use Rattle.small_field.specs.Modulus.{is_modulus};
 
 use crate::ranks::coboundary_rank;
 use face_poset::Space;
 use linear_laws::basis_by_ranks;
-use order_complex::{ChainFault, Chains, betti_by_ranks};
+use order_complex::{Betti, ChainFault, Chains, betti_by_ranks};
 use small_field::{Field, Gfp};
 use std::alloc::{AllocError, Global};
 use std::sync::ledger::Ledger;
 use step_count::Steps;
-
-/// The Betti numbers of degrees 0 to 3.
-#[derive(Clone, Copy, PartialEq, Eq, Debug)]
-pub struct Betti {
-    pub zero: u32,
-    pub one: u32,
-    pub two: u32,
-    pub three: u32,
-}
 
 /// The number of chains of a degree less the ranks of the coboundaries into and out of it.
 fn chains_left(chains: u32, rank_last: u32, rank_next: u32) -> u32

@@ -13,7 +13,7 @@ use Rattle.order_complex.specs.Chains.{chains_of}
 use Rattle.order_complex.specs.Complex.{complex_of, negative_in}
 use Rattle.order_complex.specs.Homology.{IsBetti}
 use Rattle.order_complex.specs.Ranks.{rows_of, rows_into}
-use Rattle.order_complex.proofs.CallerLemmas.{basis_of, composition_is_zero, count-chains}
+use Rattle.order_complex.proofs.CallerLemmas.{chains_of-four, basis_of, composition_is_zero, count-chains}
 use Rattle.split_laws.specs.declared.kind.Kind.{Kind}
 use Rattle.split_laws.specs.declared.kind.Kind.TheVariants.{Critical, Lower, Upper}
 use Rattle.split_laws.specs.Kinds.{criticals, HasNoUpper, AgreeOnUppers, ZeroOffUppers}
@@ -23,8 +23,7 @@ use Rattle.split_laws.specs.Complex.{before, IsSplitComplex, AreReduced}
 use Rattle.split_laws.specs.Laws.{FieldsSplit, ReducedIsClosed, BettiByReducedRanks}
 use Rattle.critical_complex.specs.Stages.{Stage, empty_stage}
 use Rattle.critical_complex.specs.Splits.{stage_at, kinds_at, cells_at, rows_at, IsReductionOf, IsSplitting}
-use Rattle.plain_betti.proofs.Heights.{chains_of-four}
-use Rattle.plain_betti.specs.Numbers.{coboundary_entries}
+use Rattle.order_complex.specs.Numbers.{coboundary_entries}
 use Rattle.reduced_betti.specs.Ranks.{AreRanks, critical_entries}
 use Rattle.reduced_betti.proofs.Bounds.{few_entries}
 use Rattle.reduced_betti.specs.declared.ranks.Ranks.{Ranks}

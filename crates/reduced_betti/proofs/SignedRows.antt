@@ -10,9 +10,8 @@ use Rattle.order_complex.specs.Chains.{chains_of}
 use Rattle.order_complex.specs.Cochains.{leave_out, mark, coboundary_at, coboundary_on}
 use Rattle.order_complex.specs.Complex.{number_or_zero, facet_numbers, facet_lists, complex_of, stands_odd, negative_in}
 use Rattle.order_complex.specs.Ranks.{rows_on, rows_of}
-use Rattle.order_complex.proofs.CallerLemmas.{member-at, holds-reverse, weight, coboundary-mark, count-chains, layer-facets, number-of}
+use Rattle.order_complex.proofs.CallerLemmas.{chains_of-four, member-at, holds-reverse, weight, coboundary-mark, count-chains, layer-facets, number-of}
 use Rattle.critical_complex.specs.Signed.{signed_entry, signed_rows}
-use Rattle.plain_betti.proofs.Heights.{chains_of-four}
 
 nothings : {A B : Type 0} (xs : List A) (ys : List B) → length xs ≡ length ys → map {B = List ℕ} (λ x. []) xs ≡ map (λ y. []) ys
 nothings [] [] e = refl

@@ -10,4 +10,3 @@ mod numbers;
 mod ranks;
 
 pub use numbers::{betti_modulo, betti_numbers, betti_of};
-pub use plain_betti::Betti;

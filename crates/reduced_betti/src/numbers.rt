@@ -3,15 +3,14 @@ ghost use Rattle.std.specs.Prelude.{◌≡◌, ◌≤◌, ◌<◌, ◌+◌, IsTr
 ghost use Rattle.small_field.specs.Prime.{mod_ops};
 ghost use Rattle.order_complex.specs.Chains.{chain_count};
 ghost use Rattle.order_complex.specs.Complex.{IsRefused};
-ghost use Rattle.plain_betti.specs.Numbers.{AreBetti, coboundary_entries};
+ghost use Rattle.order_complex.specs.Numbers.{AreBetti, coboundary_entries};
 ghost use Rattle.small_field.specs.Modulus.{is_modulus};
 
 use crate::ranks::{critical_count, reduced_ranks};
 use critical_complex::Reduced;
 use face_poset::Space;
 use linear_laws::basis_by_ranks;
-use order_complex::{ChainFault, Chains};
-use plain_betti::Betti;
+use order_complex::{Betti, ChainFault, Chains};
 use small_field::{Field, Gfp};
 use split_laws::{betti_by_reduced_ranks, fields_split, reduced_is_closed};
 use std::alloc::{AllocError, Global};

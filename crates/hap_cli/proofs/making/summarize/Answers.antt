@@ -1,7 +1,7 @@
 use Rattle.std.proofs.Common.{◌≤◌, ◌+◌, None, Some, ap, refl, subst, sym}
 use Rattle.small_field.specs.Prime.{mod_ops}
 use Rattle.tuple_spaces.specs.Torus.{torus_of}
-use Rattle.plain_betti.specs.Numbers.{AreBetti, coboundary_entries}
+use Rattle.order_complex.specs.Numbers.{AreBetti, coboundary_entries}
 use Rattle.hap_outside.specs.Causes.{Rose}
 use Rattle.hap_outside.specs.Writes.{Writes}
 use Rattle.hap_words.specs.Asked.{make}

@@ -1,6 +1,6 @@
 use Rattle.std.proofs.Common.{rules, ◌≡◌, ◌≤◌, ◌+◌, ◌∙◌, Ok, ap, refl, subst, sym}
 use Rattle.small_field.specs.Prime.{mod_ops}
-use Rattle.plain_betti.specs.Numbers.{AreBetti}
+use Rattle.order_complex.specs.Numbers.{AreBetti}
 use Rattle.hap_outside.specs.Causes.{Rose}
 use Rattle.hap_words.specs.Asked.{source_of, betti}
 use Rattle.hap_cli.specs.Spaces.{reading, regular_reading, few_reading, only_regular, only_few, fault_in}

@@ -1,5 +1,5 @@
 use Rattle.std.proofs.Common.{◌≤◌, ◌+◌, ℕ, List, subst}
-use Rattle.plain_betti.specs.Numbers.{coboundary_entries}
+use Rattle.order_complex.specs.Numbers.{coboundary_entries}
 use Rattle.reduced_betti.proofs.numbers.betti_of.Goals as goal
 
 pub returns-in-Ok-clause-steps : goal.returns-in-Ok-clause-steps
