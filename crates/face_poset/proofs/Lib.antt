@@ -4,7 +4,6 @@ pub mod CofaceLaw
 pub mod Each
 pub mod Facets
 pub mod LayerLemmas
-pub mod PositionLemmas
 pub mod ReadBack
 pub mod SpaceLemmas
 pub mod Spelling

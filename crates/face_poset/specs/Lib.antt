@@ -1,8 +1,7 @@
--- What the contracts mean: Poset, Positions, Reader, Laws, Signs, Text, Below.
+-- What the contracts mean: Poset, Reader, Laws, Signs, Text, Below.
 -- What the code keeps for itself: Layers.
 -- Words of lower crates that these speak of stand at the end.
 pub mod Poset
-pub mod Positions
 pub mod Reader
 pub mod Laws
 pub mod Layers

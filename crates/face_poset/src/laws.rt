@@ -1,4 +1,3 @@
-ghost use Rattle.face_poset.specs.Positions.{PositionIsSpelled};
 ghost use Rattle.face_poset.specs.Laws.{TextReadsBack, CofacesAreCellsAbove, ClosedCellIsOrdered, ClosedCellIsLeast};
 
 /// A law, and nothing at run time: the boundary text of a space reads as the space.
@@ -21,10 +20,4 @@ pub fn closed_cell_is_ordered()
 /// and the facets of all its members.
 pub fn closed_cell_is_least()
     ensures { ClosedCellIsLeast }
-{}
-
-/// A law, and nothing at run time: a text has a position exactly where it is the text of that
-/// position.
-pub fn position_is_spelled()
-    ensures { PositionIsSpelled }
 {}

@@ -12,7 +12,6 @@ mod cells;
 mod fault;
 mod graded;
 mod laws;
-mod position;
 mod printer;
 mod reader;
 mod space;
@@ -22,9 +21,7 @@ pub use cells::{Cell, CellList, Pair};
 pub use fault::SpaceFault;
 pub use graded::{Graded, Signed};
 pub use laws::{
-    closed_cell_is_least, closed_cell_is_ordered, cofaces_are_cells_above, position_is_spelled,
-    text_reads_back,
+    closed_cell_is_least, closed_cell_is_ordered, cofaces_are_cells_above, text_reads_back,
 };
-pub use position::{Position, PositionFault};
 pub use reader::from_nest;
 pub use space::Space;

@@ -7,7 +7,7 @@
 --   asked_of command     what a `Command` of the code stands for
 use Rattle.std.specs.Prelude.{ℕ, List, option_map, string_bytes}
 use Rattle.std.specs.declared.option.Option.{Option}
-use Rattle.face_poset.specs.Positions.{Place}
+use Rattle.sheet_tables.specs.Positions.{Place}
 use Rattle.hap_words.specs.declared.command.Kind.{Kind}
 use Rattle.hap_words.specs.declared.command.Input.{Input}
 use Rattle.hap_words.specs.declared.command.Command.{Command}

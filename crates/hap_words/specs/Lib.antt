@@ -6,5 +6,5 @@ pub mod Asked
 pub mod Table
 pub mod Reads
 pub mod Ranges
-pub use Rattle.face_poset.specs.Positions
+pub use Rattle.sheet_tables.specs.Positions
 pub use Rattle.small_field.specs.Modulus

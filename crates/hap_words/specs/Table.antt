@@ -20,7 +20,7 @@ use Rattle.std.specs.declared.option.Option.TheVariants.{Some, None}
 use Rattle.std.specs.List.{list_all, list_any}
 use Rattle.clap.specs.declared.error.kind.ErrorKind.{ErrorKind}
 use Rattle.clap.specs.Words.{Row, Text, fault_of, first_of, matches_of}
-use Rattle.face_poset.specs.Positions.{position_from}
+use Rattle.sheet_tables.specs.Positions.{position_from}
 use Rattle.hap_words.specs.declared.command.Kind.{Kind}
 use Rattle.hap_words.specs.declared.command.Kind.TheVariants.{Boundary, Cubical, Permutahedral, Arcs}
 use Rattle.hap_words.specs.declared.table.Verb.{Verb}

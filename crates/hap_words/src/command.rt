@@ -1,5 +1,5 @@
 // The commands with their options as values.
-use face_poset::Position;
+use sheet_tables::Position;
 
 /// How the input is to be read.
 #[derive(Clone, Copy, Debug, PartialEq, Eq)]

@@ -14,7 +14,7 @@ use crate::table::{Name, Verb, is_taken, is_verb_built, kind_of_word, option_wor
 use crate::texts::read_number_between;
 use clap::ArgMatches;
 use clap::error::ErrorKind;
-use face_poset::{Position, PositionFault};
+use sheet_tables::{Position, PositionFault};
 use std::alloc::Global;
 
 /// The command that the words, those after the program's name, ask for, where the command is built.

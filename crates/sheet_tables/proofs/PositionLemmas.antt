@@ -1,12 +1,11 @@
 -- Lemmas on the text of a position.
 use Rattle.std.proofs.Common.{◌≡◌, ◌≤◌, ◌+◌, ◌-◌, ◌++◌, ◌∷◌, [], ℕ, Bool, true, false, cond, ◌&&◌, eqb, leb, Option, Some, None, List, length, get_or, take, drop, map, refl, sym, ◌∙◌, ap, arith, subst, All, append_assoc}
 use Rattle.std.specs.Option.{option_and_then}
-use Rattle.std.specs.List.{join_with_byte}
 use Rattle.std.proofs.lemmas.Bool.{eqb-true, eq-eqb, leb-true, le-leb, false≢true}
 use Rattle.std.proofs.lemmas.Option.{same_Some}
 use Rattle.std.proofs.lemmas.List.{take_rest}
 use Rattle.std.proofs.lemmas.List.Elements.{All-nil, All-cons, All-tail}
-use Rattle.sheet_tables.specs.Positions.{IsProper, digit_from, cells_from, position_from, position_text}
+use Rattle.sheet_tables.specs.Positions.{IsProper, digit_from, cells_from, cells_text, position_from, position_text}
 
 -- ---- parts of an answer
 
@@ -42,9 +41,6 @@ digit-back d low high =
     ∙ (ap (λ (t : Bool). cond t (Some (48 + d - 48)) None) b ∙ ap (λ (n : ℕ). Some n) (let e : 48 + d - 48 ≡ d = omega arith in e))
 
 -- ---- cells
-
-abbrev pub cells_text : List ℕ → List ℕ
-cells_text cells = join_with_byte 44 (map (λ c. (48 + c) ∷ []) cells)
 
 abbrev is_small : ℕ → Type 0
 is_small c = (1 ≤ c) × (c ≤ 8)

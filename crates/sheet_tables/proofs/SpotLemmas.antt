@@ -9,9 +9,9 @@ use Rattle.std.proofs.lemmas.List.{append-nil, take_more, drop_more, drop_all, t
 use Rattle.std.proofs.lemmas.List.Folds.{list_all_at}
 use Rattle.std.proofs.lemmas.Fmt.{digits_decimal, digits_value-decimal, decimal-digits_value, first_decimal, decimal_nonempty}
 use Rattle.std.proofs.lemmas.Str.Parse.{IsDigitsTest, FoldsDigits, IsNumeralModel, numerals_by_fold}
-use Rattle.sheet_tables.specs.Positions.{IsProper, position_from, position_text}
+use Rattle.sheet_tables.specs.Positions.{IsProper, cells_text, position_from, position_text}
 use Rattle.sheet_tables.specs.Spots.{is_digit, digits_after, component_from, at_slash, in_component, parts_from, spot_from, spot_text}
-use Rattle.sheet_tables.proofs.PositionLemmas.{position-is, position-back, cells_text}
+use Rattle.sheet_tables.proofs.PositionLemmas.{position-is, position-back}
 
 and-parts : (a b : Bool) → (a && b) ≡ true → (a ≡ true) × (b ≡ true)
 and-parts true b h = (refl, h)

@@ -25,9 +25,13 @@ pub record IsProper (sheets : ℕ) (cells : List ℕ) : Type 0 where
 abbrev pub IsPosition : ℕ → List ℕ → Type 0
 IsPosition sheets cells = ((sheets ≡ 0) × (cells ≡ [])) ⊎ IsProper sheets cells
 
--- the sheets, a colon, and the cells with commas between them, each one digit
+-- cells with commas between them, each one digit
+abbrev pub cells_text : List ℕ → List ℕ
+cells_text cells = join_with_byte 44 (map (λ c. (48 + c) ∷ []) cells)
+
+-- the sheets, a colon, and the cells
 abbrev pub position_text : (sheets : ℕ) → List ℕ → List ℕ
-position_text sheets cells = (48 + sheets) ∷ 58 ∷ join_with_byte 44 (map (λ c. (48 + c) ∷ []) cells)
+position_text sheets cells = (48 + sheets) ∷ 58 ∷ cells_text cells
 
 -- ---- reading such a text
 

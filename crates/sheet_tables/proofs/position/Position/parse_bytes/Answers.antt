@@ -1,5 +1,6 @@
 use Rattle.std.proofs.Common.{◌≡◌, ◌≤◌, ◌+◌, ◌-◌, ℕ, List, length, take, drop, get_or, inr, sym, ◌∙◌, arith, All}
-use Rattle.sheet_tables.proofs.PositionLemmas.{digit-is, cells-are, cells_text}
+use Rattle.sheet_tables.specs.Positions.{cells_text}
+use Rattle.sheet_tables.proofs.PositionLemmas.{digit-is, cells-are}
 use Rattle.sheet_tables.proofs.position.Position.parse_bytes.Goals as goal
 
 pub invariant_of-result : goal.invariant_of-result
