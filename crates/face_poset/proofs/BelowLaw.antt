@@ -1,9 +1,9 @@
 -- A cell with all its faces: its order, and that it is the least such set.
-use Rattle.std.proofs.Common.{◌≡◌, ◌<◌, ◌≤◌, ◌+◌, ◌-◌, ◌++◌, ◌∷◌, [], ℕ, zero, suc, Bool, true, ◌&&◌, inl, inr, List, get_or, length, map, filter, refl, sym, ◌∙◌, ap, arith, subst, All, AllPairs, Contains}
+use Rattle.std.proofs.Common.{◌≡◌, ◌<◌, ◌≤◌, ◌+◌, ◌-◌, ◌∷◌, [], ℕ, zero, suc, Bool, true, ◌&&◌, inl, inr, List, get_or, length, map, filter, refl, sym, ◌∙◌, ap, arith, subst, All, AllPairs, Contains}
 use Rattle.std.specs.List.{list_any}
 use Rattle.std.specs.List.Sorted.{IsStrictlyIncreasing}
-use Rattle.std.proofs.lemmas.List.{length-append, length-map, get_or_default, get_or_append_left, get_or-append_right, get_or-map}
-use Rattle.std.proofs.lemmas.Bool.{cases_lt}
+use Rattle.std.proofs.lemmas.List.{length-map, get_or_default, get_or-map}
+use Rattle.std.proofs.lemmas.Bool.{and_parts}
 use Rattle.std.proofs.lemmas.List.Kept.{AllPairs-from_increasing, IsStrictlyIncreasing-filter}
 use Rattle.std.proofs.lemmas.List.Elements.{All-append, All-map, Contains-append_left, Contains-append_right, Contains-append_cases}
 use Rattle.std.proofs.lemmas.List.Folds.{list_any_at}
@@ -12,26 +12,10 @@ use Rattle.number_lists.specs.Words.{upto, holds}
 use Rattle.face_poset.specs.Poset.{count, facets_of, IsSpace}
 use Rattle.face_poset.specs.Below.{cell_at, facets_of_all, closure, closed_cell, IsBelow, itself, facet}
 use Rattle.face_poset.specs.Laws.{ComesBefore}
-use Rattle.number_lists.proofs.CallerLemmas.{increasing-upto, holds-upto, holds-filter, Contains-holds, holds-Contains}
-use Rattle.face_poset.proofs.CofaceLaw.{and_parts}
-use Rattle.face_poset.proofs.BelowLemmas.{any_at, facet_within, facets_within}
+use Rattle.number_lists.proofs.CallerLemmas.{increasing-upto, holds-upto, holds-filter, Contains-holds, holds-Contains, AllPairs-append, any-some, In-Contains}
+use Rattle.face_poset.proofs.BelowLemmas.{facet_within, facets_within}
 
 -- ---- the order
-
-pairs-append : {X : Type 0} (R : X → X → Type 0) (xs ys : List X) → AllPairs R xs → AllPairs R ys → ((i j : ℕ) (d : X) → i < length xs → j < length ys → R (get_or xs i d) (get_or ys j d)) → AllPairs R (xs ++ ys)
-pairs-append R xs ys a b across i j d lt within =
-    let long : length (xs ++ ys) ≡ length xs + length ys = length-append xs ys in
-    elim (cases_lt j (length xs)) [
-      | inl lj ↦ subst (λ (x : _). R x (get_or (xs ++ ys) j d)) (sym (get_or_append_left xs ys d i (omega arith))) (subst (λ (y : _). R (get_or xs i d) y) (sym (get_or_append_left xs ys d j lj)) (a i j d lt lj))
-      | inr gj ↦
-          let right : get_or (xs ++ ys) j d ≡ get_or ys (j - length xs) d = get_or-append_right xs ys (length xs) j d refl gj in
-          elim (cases_lt i (length xs)) [
-            | inl li ↦ subst (λ (x : _). R x (get_or (xs ++ ys) j d)) (sym (get_or_append_left xs ys d i li)) (subst (λ (y : _). R (get_or xs i d) y) (sym right) (across i (j - length xs) d li (omega arith)))
-            | inr gi ↦
-                subst (λ (x : _). R x (get_or (xs ++ ys) j d)) (sym (get_or-append_right xs ys (length xs) i d refl gi))
-                (subst (λ (y : _). R (get_or ys (i - length xs) d) y) (sym right) (b (i - length xs) (j - length xs) d (omega arith) (omega arith)))
-          ]
-    ]
 
 -- the cells of one dimension, by increasing numbers
 cells_ordered : (dim : ℕ) (ns : List ℕ) → IsStrictlyIncreasing ns → AllPairs ComesBefore (map (cell_at dim) ns)
@@ -56,7 +40,7 @@ closure-ordered : (space : List (List (List ℕ))) (dim : ℕ) (ns : List ℕ) �
 closure-ordered space zero ns rises = cells_ordered zero ns rises
 closure-ordered space (suc dim) ns rises =
     let lower : List ℕ = facets_of_all space dim ns in
-    pairs-append ComesBefore (closure space dim lower) (map (cell_at (suc dim)) ns)
+    AllPairs-append ComesBefore (closure space dim lower) (map (cell_at (suc dim)) ns)
     (closure-ordered space dim lower (IsStrictlyIncreasing-filter (λ f. list_any (λ c. holds (facets_of space (dim + 1) c) f) ns) (upto (count space dim)) (increasing-upto (count space dim))))
     (cells_ordered (suc dim) ns rises)
     (λ i j d li lj.
@@ -85,8 +69,8 @@ facets-from : (space : List (List (List ℕ))) (dim : ℕ) (ns : List ℕ) (f : 
 facets-from space dim ns f has =
     let p : ℕ → Bool = λ g. list_any (λ c. holds (facets_of space (dim + 1) c) g) ns in
     let both : (p f ≡ true) × (holds (upto (count space dim)) f ≡ true) = and_parts (p f) (holds (upto (count space dim)) f) (sym (holds-filter p (upto (count space dim)) f) ∙ Contains-holds (filter p (upto (count space dim))) f has) in
-    let a : (c : ℕ) × Contains ns c × (holds (facets_of space (dim + 1) c) f ≡ true) = any_at (λ c. holds (facets_of space (dim + 1) c) f) ns both.0 in
-    (a.0, a.1, holds-Contains (facets_of space (dim + 1) a.0) f a.2)
+    let a = any-some (λ c. holds (facets_of space (dim + 1) c) f) ns both.0 in
+    (a.0, In-Contains a.1, holds-Contains (facets_of space (dim + 1) a.0) f a.2)
 
 facets-has : (space : List (List (List ℕ))) (dim : ℕ) (ns : List ℕ) (c f : ℕ) → IsSpace space → All (λ m. (1 ≤ m) × (m ≤ count space (dim + 1))) ns → Contains ns c → Contains (facets_of space (dim + 1) c) f → Contains (facets_of_all space dim ns) f
 facets-has space dim ns c f h valid has below =

@@ -1,15 +1,15 @@
 -- Lemmas on a cell with all its faces.
-use Rattle.std.proofs.Common.{◌≡◌, ◌≢◌, ◌≤◌, ◌+◌, ◌-◌, ◌++◌, ◌∷◌, [], ℕ, zero, suc, Bool, true, ◌||◌, List, length, get_or, map, refl, ◌∙◌, ap, arith, subst, All, Any, Contains, eqb, ◌*◌, mul-le-mul_right}
+use Rattle.std.proofs.Common.{◌≡◌, ◌≢◌, ◌≤◌, ◌+◌, ◌-◌, ◌++◌, ◌∷◌, [], ℕ, zero, suc, Bool, ◌||◌, List, length, get_or, map, refl, ◌∙◌, ap, arith, subst, All, Contains, eqb, ◌*◌, mul-le-mul_right}
 use Rattle.std.specs.List.{flat_map, list_any}
 use Rattle.std.specs.List.Sorted.{IsStrictlyIncreasing}
 use Rattle.std.proofs.lemmas.List.{length-append, length-map, get_or_past}
-use Rattle.std.proofs.lemmas.List.Folds.{list_any-append, Any-from_list_any}
+use Rattle.std.proofs.lemmas.List.Folds.{list_any-append}
 use Rattle.std.proofs.lemmas.List.Elements.{All-filter}
 use Rattle.face_poset.specs.declared.cells.Cell.{Cell}
 use Rattle.number_lists.specs.Words.{upto, holds}
 use Rattle.face_poset.specs.Poset.{layer, count, cell_count, facets_of, IsCell, IsSpace}
 use Rattle.face_poset.specs.Below.{cell_at, facets_of_all, closure}
-use Rattle.number_lists.proofs.CallerLemmas.{members_sorted, holds-Contains, same_holds, length-filter-le, All-upto, length-upto}
+use Rattle.number_lists.proofs.CallerLemmas.{members_sorted, holds-Contains, same_holds, length-filter-le, All-upto, length-upto, any-some, In-Contains}
 
 pub closure-step : (space : List (List (List ℕ))) (dim : ℕ) (cells : List ℕ) → dim ≢ 0 → closure space dim cells ≡ closure space (dim - 1) (facets_of_all space (dim - 1) cells) ++ map (cell_at dim) cells
 closure-step space zero cells ne = absurd (ne refl)
@@ -21,10 +21,6 @@ closure-step space (suc dim) cells ne =
 pub holds-flat_map : (F : ℕ → List ℕ) (cells : List ℕ) (n : ℕ) → holds (flat_map F cells) n ≡ list_any (λ c. holds (F c) n) cells
 holds-flat_map F [] n = refl
 holds-flat_map F (c ∷ cells) n = list_any-append (λ y. eqb y n) (F c) (flat_map F cells) ∙ ap (λ (b : Bool). holds (F c) n || b) (holds-flat_map F cells n)
-
--- a list with some element that passes
-pub any_at : {X : Type 0} (p : X → Bool) (xs : List X) → list_any p xs ≡ true → (x : X) × Contains xs x × (p x ≡ true)
-any_at p xs h = let a : Any (λ x. p x ≡ true) xs = Any-from_list_any p xs h in (a.1, (a.0, a.2, a.3), a.4)
 
 -- facets are cells of one dimension less
 pub facet_within : (space : List (List (List ℕ))) (dim c f : ℕ) → IsSpace space → 1 ≤ dim → 1 ≤ c → c ≤ count space dim → Contains (facets_of space dim c) f → (1 ≤ f) × (f ≤ count space (dim - 1))
@@ -42,8 +38,8 @@ sorted_facets space dim cells all xs h valid e rises keeps adds =
     members_sorted xs p (count space dim) rises
     (λ n. same_holds xs all n (adds n) (keeps n) ∙ (ap (λ (ys : List ℕ). holds ys n) e ∙ holds-flat_map (λ c. facets_of space (dim + 1) c) cells n))
     (λ n yes.
-    let a : (c : ℕ) × Contains cells c × (holds (facets_of space (dim + 1) c) n ≡ true) = any_at (λ c. holds (facets_of space (dim + 1) c) n) cells yes in
-    let at : Contains cells a.0 = a.1 in
+    let a = any-some (λ c. holds (facets_of space (dim + 1) c) n) cells yes in
+    let at : Contains cells a.0 = In-Contains a.1 in
     let w : (1 ≤ get_or cells at.0 a.0) × (get_or cells at.0 a.0 ≤ count space (dim + 1)) = valid at.0 a.0 at.1 in
     let v : (1 ≤ a.0) × (a.0 ≤ count space (dim + 1)) = subst (λ (m : ℕ). (1 ≤ m) × (m ≤ count space (dim + 1))) at.2 w in
     let r : (1 ≤ n) × (n ≤ count space (dim + 1 - 1)) = facet_within space (dim + 1) a.0 n h (omega arith) v.0 v.1 (holds-Contains (facets_of space (dim + 1) a.0) n a.2) in

@@ -1,15 +1,11 @@
 -- Cofaces are the cells above.
-use Rattle.std.proofs.Common.{◌≡◌, ◌≤◌, ◌+◌, ℕ, Bool, true, false, ◌&&◌, List, filter, refl, sym, ◌∙◌, ap, subst, Contains}
-use Rattle.std.proofs.lemmas.Bool.{false≢true}
+use Rattle.std.proofs.Common.{◌≡◌, ◌≤◌, ◌+◌, ℕ, Bool, true, ◌&&◌, List, filter, sym, ◌∙◌, ap, subst, Contains}
+use Rattle.std.proofs.lemmas.Bool.{and_parts}
 use Rattle.std.proofs.lemmas.List.Kept.{IsStrictlyIncreasing-filter}
 use Rattle.number_lists.specs.Words.{upto, holds}
 use Rattle.face_poset.specs.Poset.{count, facets_of}
 use Rattle.face_poset.specs.Laws.{CofacesAre}
 use Rattle.number_lists.proofs.CallerLemmas.{increasing-upto, All-upto, holds-upto, holds-filter, Contains-holds, holds-Contains}
-
-pub and_parts : (a b : Bool) → (a && b) ≡ true → (a ≡ true) × (b ≡ true)
-and_parts true b h = (refl, h)
-and_parts false b h = absurd (false≢true h)
 
 pub cofaces_are : (space : List (List (List ℕ))) (dim cell : ℕ) → CofacesAre space dim cell
 cofaces_are space dim cell =

@@ -1,7 +1,7 @@
 -- Lemmas on answers one after another.
 use Rattle.std.proofs.Common.{◌≡◌, ◌<◌, ◌+◌, ◌++◌, ◌∷◌, [], ℕ, suc, List, length, take, drop, refl, sym, ◌∙◌, ap, arith, Result, Ok, Err, Some, slice_get}
-use Rattle.std.proofs.lemmas.List.{take_more, drop_more, take-append-drop, length-take-le}
-use Rattle.std.proofs.lemmas.Option.{get_or_from_slice_get}
+use Rattle.std.proofs.lemmas.List.{length-take-le}
+use Rattle.number_lists.proofs.CallerLemmas.{take-slice_get, split-slice_get}
 use Rattle.face_poset.specs.declared.fault.SpaceFault.{SpaceFault}
 use Rattle.face_poset.specs.Reader.{and_then, each_from}
 
@@ -34,22 +34,13 @@ each-stop n f (z ∷ xs) x more ys e h k =
     ap (λ (r : Result _ SpaceFault). and_then r (λ z. and_then (each_from (suc n) f (xs ++ x ∷ more)) (λ zs. Ok (z ∷ zs)))) a
     ∙ ap (λ (r : Result _ SpaceFault). and_then r (λ zs. Ok (w ∷ zs))) (each-stop (suc n) f xs x more ws e b at)
 
--- a list that was read at a place
-
-pub take_at : {A : Type 0} (xs : List A) (i : ℕ) (x : A) → i < length xs → slice_get xs i ≡ Some x → take (i + 1) xs ≡ take i xs ++ x ∷ []
-take_at xs i x l e = take_more xs i x l ∙ ap (λ (y : _). take i xs ++ y ∷ []) (get_or_from_slice_get xs i x x e)
-
-pub split_at : {A : Type 0} (xs : List A) (i : ℕ) (x : A) → i < length xs → slice_get xs i ≡ Some x → take i xs ++ x ∷ drop (i + 1) xs ≡ xs
-split_at xs i x l e =
-    ap (λ (y : _). take i xs ++ y ∷ drop (i + 1) xs) (sym (get_or_from_slice_get xs i x x e)) ∙ (ap (λ (ys : List _). take i xs ++ ys) (sym (drop_more xs i x l)) ∙ take-append-drop i xs)
-
 -- one step of a loop over a list
 pub each-more : {A B : Type 0} (n : ℕ) (f : ℕ → A → Result B SpaceFault) (xs : List A) (i : ℕ) (x : A) (ys zs : List B) (y : B) → i < length xs → slice_get xs i ≡ Some x
     → each_from n f (take i xs) ≡ Ok ys → f (n + i) x ≡ Ok y → zs ≡ ys ++ y ∷ [] → each_from n f (take (i + 1) xs) ≡ Ok zs
 each-more n f xs i x ys zs y l e h k push =
     let short : length (take i xs) ≡ i = length-take-le i xs (omega arith) in
     let at : f (n + length (take i xs)) x ≡ Ok y = ap (λ (m : ℕ). f (n + m) x) short ∙ k in
-    ap (each_from n f) (take_at xs i x l e) ∙ (each-push n f (take i xs) x ys y h at ∙ ap (λ (ws : List _). Ok ws) (sym push))
+    ap (each_from n f) (take-slice_get xs i x l e) ∙ (each-push n f (take i xs) x ys y h at ∙ ap (λ (ws : List _). Ok ws) (sym push))
 
 -- the first fault
 pub each-fault : {A B : Type 0} (n : ℕ) (f : ℕ → A → Result B SpaceFault) (xs : List A) (i : ℕ) (x : A) (ys : List B) (d : SpaceFault) → i < length xs → slice_get xs i ≡ Some x
@@ -57,4 +48,4 @@ pub each-fault : {A B : Type 0} (n : ℕ) (f : ℕ → A → Result B SpaceFault
 each-fault n f xs i x ys d l e h k =
     let short : length (take i xs) ≡ i = length-take-le i xs (omega arith) in
     let at : f (n + length (take i xs)) x ≡ Err d = ap (λ (m : ℕ). f (n + m) x) short ∙ k in
-    ap (each_from n f) (sym (split_at xs i x l e)) ∙ each-stop n f (take i xs) x (drop (i + 1) xs) ys d h at
+    ap (each_from n f) (sym (split-slice_get xs i x l e)) ∙ each-stop n f (take i xs) x (drop (i + 1) xs) ys d h at

@@ -1,9 +1,9 @@
 -- Lemmas on the facets of a cell that is read.
-use Rattle.std.proofs.Common.{◌≡◌, ◌≢◌, ◌<◌, ◌≤◌, ◌+◌, ◌++◌, ◌∷◌, [], ℕ, zero, suc, Bool, true, false, not, cond, ◌||◌, eqb, ltb, List, inl, inr, length, get_or, take, filter, refl, sym, ◌∙◌, ap, arith, Contains, Ok, Err, IsPermutation}
+use Rattle.std.proofs.Common.{◌≡◌, ◌≢◌, ◌<◌, ◌≤◌, ◌+◌, ◌++◌, ◌∷◌, [], ℕ, zero, suc, Bool, true, false, not, cond, ◌||◌, eqb, ltb, List, length, get_or, take, filter, refl, sym, ◌∙◌, ap, arith, Contains, Ok, Err, IsPermutation}
+use Rattle.std.proofs.lemmas.Cmp.{nat_eq_equiv}
 use Rattle.std.specs.List.{list_any, IsDistinct, refill, AllByRecursion}
 use Rattle.std.specs.List.Sorted.{IsStrictlyIncreasing, IsNonDecreasing}
-use Rattle.std.proofs.lemmas.Bool.{eq-eqb, eqb-false, ltb-false, false≢true, ne_eqb}
-use Rattle.std.proofs.lemmas.Bool.Decides.{eqb_tells}
+use Rattle.std.proofs.lemmas.Bool.{eq-eqb, eqb-false, ltb-false, false≢true, ne_eqb, or_parts}
 use Rattle.std.proofs.lemmas.List.{take_all, append-nil, drop_all}
 use Rattle.std.proofs.lemmas.List.Folds.{list_any_at}
 use Rattle.std.proofs.lemmas.List.Sorted.{Contains-permutation, IsPermutation-sym}
@@ -30,20 +30,13 @@ facets_checked (suc dim) below n t fs outside twice low some long a b =
 
 -- numbers that stand twice
 
-eqb_flips : (x y : ℕ) → eqb x y ≡ eqb y x
-eqb_flips x y = elim (eqb_tells x y) [ inl p ↦ p.0 ∙ sym (eq-eqb y x (sym p.1)) | inr p ↦ p.0 ∙ sym (ne_eqb y x (λ e. p.1 (sym e))) ]
-
-pub or_parts : (a b : Bool) → (a || b) ≡ false → (a ≡ false) × (b ≡ false)
-or_parts true b h = absurd (false≢true (sym h))
-or_parts false b h = (refl, h)
-
 all_differ : (x : ℕ) (xs : List ℕ) → holds xs x ≡ false → AllByRecursion (λ y. eqb x y ≡ false) xs
 all_differ x [] h = tt
-all_differ x (y ∷ xs) h = let p : (eqb y x ≡ false) × (holds xs x ≡ false) = or_parts (eqb y x) (holds xs x) h in (eqb_flips x y ∙ p.0, all_differ x xs p.1)
+all_differ x (y ∷ xs) h = let p : (eqb y x ≡ false) × (holds xs x ≡ false) = or_parts (eqb y x) (holds xs x) h in (nat_eq_equiv.symm x y ∙ p.0, all_differ x xs p.1)
 
 none_same : (x : ℕ) (xs : List ℕ) → AllByRecursion (λ y. eqb x y ≡ false) xs → holds xs x ≡ false
 none_same x [] h = refl
-none_same x (y ∷ xs) h = ap (λ (c : Bool). c || holds xs x) (eqb_flips y x ∙ h.0) ∙ none_same x xs h.1
+none_same x (y ∷ xs) h = ap (λ (c : Bool). c || holds xs x) (nat_eq_equiv.symm y x ∙ h.0) ∙ none_same x xs h.1
 
 distinct : (xs : List ℕ) → repeats xs ≡ false → IsDistinct eqb xs
 unfolding IsDistinct
@@ -58,7 +51,7 @@ none_twice (x ∷ xs) h = ap (λ (c : Bool). c || repeats xs) (none_same x xs h.
 -- after the sort the numbers rise just where none stands twice
 
 pub rising_once : (fs sorted : List ℕ) → IsPermutation fs sorted → IsStrictlyIncreasing sorted → repeats fs ≡ false
-rising_once fs sorted moved rises = none_twice fs (IsDistinct-IsPermutation eqb eqb_flips sorted fs (IsPermutation-sym fs sorted moved) (distinct_rising sorted rises))
+rising_once fs sorted moved rises = none_twice fs (IsDistinct-IsPermutation eqb nat_eq_equiv.symm sorted fs (IsPermutation-sym fs sorted moved) (distinct_rising sorted rises))
 
 pub falling_twice : (fs sorted : List ℕ) (k : ℕ) → IsPermutation fs sorted → IsNonDecreasing sorted → k + 1 < length sorted → get_or sorted (k + 1) 0 ≤ get_or sorted k 0 → repeats fs ≡ true
 falling_twice fs sorted k moved up l le = by_test (repeats fs) refl
@@ -66,7 +59,7 @@ falling_twice fs sorted k moved up l le = by_test (repeats fs) refl
     by_test : (b : Bool) → repeats fs ≡ b → b ≡ true
     by_test true e = refl
     by_test false e =
-        let rises : IsStrictlyIncreasing sorted = IsStrictlyIncreasing-from_distinct sorted up (IsDistinct-IsPermutation eqb eqb_flips fs sorted moved (distinct fs e)) in
+        let rises : IsStrictlyIncreasing sorted = IsStrictlyIncreasing-from_distinct sorted up (IsDistinct-IsPermutation eqb nat_eq_equiv.symm fs sorted moved (distinct fs e)) in
         absurd (omega (arith, rises k l))
 
 -- the facets in order

@@ -1,7 +1,7 @@
 -- Lemmas on the layers of a boundary list.
 use Rattle.std.proofs.Common.{◌≡◌, ◌<◌, ◌≤◌, ◌+◌, ◌-◌, ◌++◌, ◌∷◌, [], ℕ, zero, suc, Bool, true, false, not, cond, ◌||◌, ◌&&◌, eqb, ltb, List, length, get_or, take, map, filter, sum_by, refl, sym, ◌∙◌, ap, arith, subst, All, Contains, Result, Ok, Err, Some, slice_get}
 use Rattle.std.specs.List.{list_any}
-use Rattle.std.proofs.lemmas.Bool.{eq-eqb, lt-ltb, le-ltb, false≢true, ne_eqb}
+use Rattle.std.proofs.lemmas.Bool.{eq-eqb, lt-ltb, le-ltb, false≢true, ne_eqb, or_parts}
 use Rattle.std.proofs.lemmas.List.{map-append, length-map, get_or_past, length_push}
 use Rattle.std.proofs.lemmas.List.Kept.{IsStrictlyIncreasing-filter}
 use Rattle.std.proofs.lemmas.List.Elements.{All-nil, All-cons, All-filter}
@@ -11,9 +11,9 @@ use Rattle.face_poset.specs.declared.fault.SpaceFault.TheVariants.{Empty, TooHig
 use Rattle.number_lists.specs.Words.{upto, holds}
 use Rattle.face_poset.specs.Poset.{layer, count, IsCell, IsSpace, IsLimited}
 use Rattle.face_poset.specs.Reader.{and_then, each_from, as_list, as_cell, is_vertex, facets_from, cell_from, layer_from, layers_from, cells_in, keep_before, trimmed, sized, space_of, repeats}
-use Rattle.face_poset.specs.Layers.{inner, kept, IsSized}
+use Rattle.face_poset.specs.Tops.{inner, kept, IsSized}
 use Rattle.face_poset.specs.Below.{cell_at}
-use Rattle.face_poset.proofs.Facets.{is_outside, inside, or_parts}
+use Rattle.face_poset.proofs.Facets.{is_outside, inside}
 use Rattle.face_poset.proofs.Each.{both_ok}
 use Rattle.number_lists.proofs.CallerLemmas.{increasing-upto, All-upto, holds-upto, holds-filter, holds-Contains}
 

@@ -1,11 +1,12 @@
-pub mod BelowLaw
-pub mod BelowLemmas
-pub mod CofaceLaw
-pub mod Each
-pub mod Facets
-pub mod LayerLemmas
-pub mod ReadBack
-pub mod SpaceLemmas
-pub mod Spelling
-pub mod TextLemmas
-pub mod Values
+mod BelowLaw
+mod BelowLemmas
+pub mod CallerLemmas
+mod CofaceLaw
+mod Each
+mod Facets
+mod LayerLemmas
+mod ReadBack
+mod SpaceLemmas
+mod Spelling
+mod TextLemmas
+mod Values

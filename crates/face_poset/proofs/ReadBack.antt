@@ -1,5 +1,6 @@
 -- What was printed reads as the space again.
 use Rattle.std.proofs.Common.{◌≡◌, ◌≢◌, ◌<◌, ◌≤◌, ◌+◌, ◌-◌, ◌++◌, ◌∷◌, [], ℕ, zero, suc, Bool, true, false, cond, ◌||◌, leb, ltb, List, length, get_or, map, filter, sum_by, refl, sym, ◌∙◌, ap, arith, subst, decimal, Result, Ok, All, codes}
+use Rattle.std.proofs.lemmas.Slice.Zip.{AllZip-long}
 use Rattle.std.specs.List.{AllZip, AllByRecursion, range_with_len}
 use Rattle.std.proofs.lemmas.Bool.{leb-true, leb-false, le-ltb, ne_eqb}
 use Rattle.std.proofs.lemmas.List.{get_or_past, nil_from_length, length-map}
@@ -9,13 +10,13 @@ use Rattle.std.proofs.lemmas.List.FromFn.{length-range_with_len}
 use Rattle.std.proofs.lemmas.Fmt.{decimal_digit}
 use Rattle.gap_text.specs.Value.{Value}
 use Rattle.gap_text.specs.Grammar.{IsValueOf, Lexes, nothing, blank, plain}
-use Rattle.gap_text.proofs.Joined.{value_of-spelled}
+use Rattle.gap_text.proofs.CallerLemmas.{value_of-spelled}
 use Rattle.face_poset.specs.declared.fault.SpaceFault.{SpaceFault}
 use Rattle.number_lists.specs.Words.{upto, holds}
 use Rattle.face_poset.specs.Poset.{layer, count, dimension_of, IsDimension, IsCell, IsSpace, IsLimited}
 use Rattle.face_poset.specs.Text.{brackets, cell_text, layer_text, layer_texts, boundary_text}
 use Rattle.face_poset.specs.Reader.{and_then, each_from, as_list, as_number, as_cell, facets_from, cell_from, layer_from, layers_from, trimmed, sized, space_of}
-use Rattle.face_poset.specs.Layers.{inner, IsSized}
+use Rattle.face_poset.specs.Tops.{inner, IsSized}
 use Rattle.face_poset.specs.Laws.{ReadsAs}
 use Rattle.number_lists.proofs.CallerLemmas.{members_sorted, holds-Contains, length-upto, distinct_rising, length-filter-le}
 use Rattle.face_poset.proofs.Facets.{is_outside, facets_checked, none_twice}
@@ -48,16 +49,10 @@ zip_numbers m (n ∷ ns) (v ∷ vs) h =
     ap (λ (r : Result ℕ SpaceFault). and_then r (λ y. and_then (each_from (suc m) (λ _ w. as_number w) vs) (λ ys. Ok (y ∷ ys)))) h.0
     ∙ ap (λ (r : Result (List ℕ) SpaceFault). and_then r (λ ys. Ok (n ∷ ys))) (zip_numbers (suc m) ns vs h.1)
 
-zip_long : {A B : Type 0} (R : A → B → Type 0) (xs : List A) (ys : List B) → AllZip R xs ys → length ys ≡ length xs
-zip_long R [] [] h = refl
-zip_long R [] (y ∷ ys) h = absurd h
-zip_long R (x ∷ xs) [] h = absurd h
-zip_long R (x ∷ xs) (y ∷ ys) h = ap suc (zip_long R xs ys h.1)
-
 -- a list of these numbers is a cell with them
 cell_of : (ns : List ℕ) (v : Value) → 0 < length ns → ListOf IsNumber ns v → as_cell v ≡ Ok ns
 cell_of ns v some l =
-    ap as_cell l.is ∙ (as_cell-is l.place l.items (omega (arith, zip_long IsNumber ns l.items l.each)) ∙ zip_numbers 0 ns l.items l.each)
+    ap as_cell l.is ∙ (as_cell-is l.place l.items (omega (arith, AllZip-long IsNumber ns l.items l.each)) ∙ zip_numbers 0 ns l.items l.each)
 
 weaker : (k : ℕ) (text : List ℕ) (P Q : Value → Type 0) → ((v : Value) → P v → Q v) → Spelled k text P → Spelled k text Q
 weaker k text P Q f s p bs rest ends lex =
@@ -234,7 +229,7 @@ layers-of : (space : List (List (List ℕ))) (n : ℕ) (ls : List Value) → IsD
 layers-of space n ls h zip = record { at = λ d. by_test d (leb d n) refl }
   where
     long : length (map inner ls) ≡ n + 1
-    long = length-map ls inner ∙ (zip_long (IsLayerValue space) (range_with_len 0 (n + 1)) ls zip ∙ length-range_with_len 0 (n + 1))
+    long = length-map ls inner ∙ (AllZip-long (IsLayerValue space) (range_with_len 0 (n + 1)) ls zip ∙ length-range_with_len 0 (n + 1))
 
     by_test : (d : ℕ) (b : Bool) → leb d n ≡ b → AllZip (IsCellValue d) (layer space d) (get_or (map inner ls) d [])
     by_test d true e =
@@ -267,8 +262,8 @@ value_read : (space : List (List (List ℕ))) (n : ℕ) (v : Value) → IsSpace 
 value_read space n v h few dim l =
     let layers : List (List Value) = map inner l.items in
     let at : LayersOf space layers = layers-of space n l.items dim l.each in
-    let long : length layers ≡ n + 1 = length-map l.items inner ∙ (zip_long (IsLayerValue space) (range_with_len 0 (n + 1)) l.items l.each ∙ length-range_with_len 0 (n + 1)) in
-    let count-is : (d : ℕ) → length (get_or layers d []) ≡ count space d = λ d. zip_long (IsCellValue d) (layer space d) (get_or layers d []) (at.at d) in
+    let long : length layers ≡ n + 1 = length-map l.items inner ∙ (AllZip-long (IsLayerValue space) (range_with_len 0 (n + 1)) l.items l.each ∙ length-range_with_len 0 (n + 1)) in
+    let count-is : (d : ℕ) → length (get_or layers d []) ≡ count space d = λ d. AllZip-long (IsCellValue d) (layer space d) (get_or layers d []) (at.at d) in
     let low : n ≤ 3 = dim.low in
     let end : length layers - 1 ≡ n = omega arith in
     let last : 1 ≤ length (get_or layers (length layers - 1) []) = subst (λ (m : ℕ). 1 ≤ length (get_or layers m [])) (sym end) (omega (arith, count-is n, dim.some)) in

@@ -5,7 +5,7 @@ use Rattle.std.proofs.lemmas.List.{length-append}
 use Rattle.gap_text.specs.Value.{Value, number, list, none, values, depth, deepest}
 use Rattle.gap_text.specs.Tokens.{Token, Open, Close, Comma, Number}
 use Rattle.gap_text.specs.Grammar.{EndsDigits, Lexes, open_bracket, close_bracket, a_comma, Reads, ReadsItems, a_number, an_empty, a_list, the_last, and_more}
-use Rattle.gap_text.proofs.Printed.{lexes-decimal}
+use Rattle.gap_text.proofs.CallerLemmas.{lexes-decimal}
 use Rattle.face_poset.specs.Text.{commas, brackets}
 use Rattle.face_poset.specs.Reader.{as_number}
 

@@ -27,10 +27,10 @@ pub struct Builder {
 }
 
 impl Model for Builder {
-    ghost use Rattle.std.specs.Prelude.{◌≤◌, List, ℕ};
-    ghost use Rattle.face_poset.specs.Poset.{IsSpace, cell_count};
+    ghost use Rattle.std.specs.Prelude.{◌≤◌};
+    ghost use Rattle.face_poset.specs.Poset.{Layers, IsSpace, cell_count};
 
-    ghost Value = { List (List (List ℕ)) };
+    ghost Value = { Layers };
 
     ghost view = { λ s. s.facets };
 

@@ -1,5 +1,5 @@
-ghost use Rattle.std.specs.Prelude.{◌≡◌, ◌≤◌, List, ℕ, Contains, Bool};
-ghost use Rattle.face_poset.specs.Poset.{count, facets_of, cofaces_of, IsSpace};
+ghost use Rattle.std.specs.Prelude.{◌≡◌, ◌≤◌, ℕ, Contains, Bool};
+ghost use Rattle.face_poset.specs.Poset.{Layers, count, facets_of, cofaces_of, IsSpace};
 ghost use Rattle.face_poset.specs.Signs.{sign_of, SignsCancel};
 
 /// Cells of dimensions 0 to 3 with their facets and cofaces.
@@ -9,7 +9,7 @@ ghost use Rattle.face_poset.specs.Signs.{sign_of, SignsCancel};
 /// is no cell above dimension 3, and at most 4,294,967,295 cells in all.
 pub trait Graded {
     /// The cells of each dimension, each as the list of its facets.
-    ghost space: { Self → List (List (List ℕ)) };
+    ghost space: { Self → Layers };
 
     /// How many cells of the dimension there are.
     fn cells(&self, dim: u8) -> u32

@@ -1,7 +1,7 @@
 ghost use Rattle.std.specs.Prelude.{◌≡◌, ◌≢◌, ◌≤◌, length, map, sum_by, take, IfOk, IfErr, OnOk, Ok, Err};
 ghost use Rattle.gap_text.specs.Nest.{view};
 ghost use Rattle.face_poset.specs.Reader.{as_list, each_from, layer_from, layers_from, cells_in, sized, space_of};
-ghost use Rattle.face_poset.specs.Layers.{inner, kept, IsSized};
+ghost use Rattle.face_poset.specs.Tops.{inner, kept, IsSized};
 
 use crate::cell_reader::read_cell;
 use crate::cells::Cell;

@@ -27,10 +27,10 @@ pub struct Space {
 }
 
 impl Model for Space {
-    ghost use Rattle.std.specs.Prelude.{◌≡◌, List, ℕ};
-    ghost use Rattle.face_poset.specs.Poset.{IsSpace, IsLimited, coface_layers};
+    ghost use Rattle.std.specs.Prelude.{◌≡◌};
+    ghost use Rattle.face_poset.specs.Poset.{Layers, IsSpace, IsLimited, coface_layers};
 
-    ghost Value = { List (List (List ℕ)) };
+    ghost Value = { Layers };
 
     ghost view = { λ s. s.facets };
 

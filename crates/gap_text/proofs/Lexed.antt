@@ -1,6 +1,7 @@
 -- The tokens that the machine makes of bytes are those that the rules give, but that a number which is too big is held at `too_big`.
 use Rattle.std.proofs.Common.{◌≡◌, ℕ, zero, suc, ◌+◌, ◌-◌, ◌*◌, ◌<◌, ◌≤◌, min, List, [], ◌∷◌, ◌++◌, length, map, Bool, true, false, ◌&&◌, inl, inr, Result, Ok, Err, refl, sym, ◌∙◌, ap, subst, arith, nat_lt}
 use Rattle.std.specs.List.{list_all}
+use Rattle.std.proofs.lemmas.Bool.{and_parts}
 use Rattle.std.proofs.lemmas.Bool.Decides.{nat_tests}
 use Rattle.gap_text.specs.declared.fault.TextFault.{TextFault}
 use Rattle.gap_text.specs.declared.byte.Class.{Class}
@@ -50,14 +51,6 @@ mode_after-comment i Hash h = refl
 mode_after-comment i Blank h = refl
 mode_after-comment i Other h = refl
 
-and_left : (a b : Bool) → (a && b) ≡ true → a ≡ true
-and_left true b e = refl
-and_left false b e = e
-
-and_right : (a b : Bool) → (a && b) ≡ true → b ≡ true
-and_right true b e = e
-and_right false b e = absurd (cc)
-
 tokens_from-comment : (cs bs : List ℕ) (i : ℕ) → list_all is_commented cs ≡ true → EndsComment bs → tokens_from Comment i (cs ++ bs) ≡ tokens_from Between (i + length cs) bs
 tokens_from-comment [] [] i e h = refl
 tokens_from-comment [] (b ∷ bs) i e h =
@@ -65,8 +58,8 @@ tokens_from-comment [] (b ∷ bs) i e h =
     subst (λ (x : ℕ). tokens_from Comment i (x ∷ bs) ≡ tokens_from Between (i + 0) (x ∷ bs)) (sym h) (ap (λ (j : ℕ). tokens_from Between (suc j) bs) k)
 tokens_from-comment (c ∷ cs) bs i e h =
     let k : suc i + length cs ≡ i + suc (length cs) = omega arith in
-    ap (λ (m : Mode). tokens_from m (suc i) (cs ++ bs)) (mode_after-comment i (class_of c) (class_of-commented c (and_left (is_commented c) (list_all is_commented cs) e)))
-    ∙ tokens_from-comment cs bs (suc i) (and_right (is_commented c) (list_all is_commented cs) e) h
+    ap (λ (m : Mode). tokens_from m (suc i) (cs ++ bs)) (mode_after-comment i (class_of c) (class_of-commented c (and_parts (is_commented c) (list_all is_commented cs) e).0))
+    ∙ tokens_from-comment cs bs (suc i) (and_parts (is_commented c) (list_all is_commented cs) e).1 h
     ∙ ap (λ (j : ℕ). tokens_from Between j bs) k
 
 -- a byte that is no digit ends the digits, and begins what it begins otherwise
@@ -95,12 +88,12 @@ tokens_from-digits [] bs q n i e h =
     let k : i ≡ i + 0 = omega arith in
     tokens_from-ended bs q (min n too_big) i h ∙ ap (λ (j : ℕ). Number q (min n too_big) ∷ tokens_from Between j bs) k
 tokens_from-digits (d ∷ ds) bs q n i e h =
-    let digit : class_of d ≡ Digit (d - 48) = class_of-digit d (and_left (is_digit d) (list_all is_digit ds) e) in
+    let digit : class_of d ≡ Digit (d - 48) = class_of-digit d (and_parts (is_digit d) (list_all is_digit ds) e).0 in
     let value : min (10 * min n too_big + (d - 48)) too_big ≡ min (10 * n + (d - 48)) too_big = omega arith in
     let k : suc i + length ds ≡ i + suc (length ds) = omega arith in
     ap (λ (c : Class). tokens_at (Digits q (min n too_big)) i c ++ tokens_from (mode_after (Digits q (min n too_big)) i c) (suc i) (ds ++ bs)) digit
     ∙ ap (λ (v : ℕ). tokens_from (Digits q v) (suc i) (ds ++ bs)) value
-    ∙ tokens_from-digits ds bs q (10 * n + (d - 48)) (suc i) (and_right (is_digit d) (list_all is_digit ds) e) h
+    ∙ tokens_from-digits ds bs q (10 * n + (d - 48)) (suc i) (and_parts (is_digit d) (list_all is_digit ds) e).1 h
     ∙ ap (λ (j : ℕ). Number q (min (decimal_from (10 * n + (d - 48)) ds) too_big) ∷ tokens_from Between j bs) k
 
 -- ---- from the rules to the machine
@@ -111,11 +104,11 @@ digit_fits b e = grind (arith, nat_tests)
 digits-tokens : (p d : ℕ) (ds bs : List ℕ) → list_all is_digit (d ∷ ds) ≡ true → EndsDigits bs
     → tokens_from Between p (d ∷ (ds ++ bs)) ≡ Number p (min (decimal_from 0 (d ∷ ds)) too_big) ∷ tokens_from Between (suc p + length ds) bs
 digits-tokens p d ds bs e h =
-    let test : is_digit d ≡ true = and_left (is_digit d) (list_all is_digit ds) e in
+    let test : is_digit d ≡ true = (and_parts (is_digit d) (list_all is_digit ds) e).0 in
     let value : d - 48 ≡ min (0 + (d - 48)) too_big = omega (arith, digit_fits d test) in
     ap (λ (c : Class). tokens_begun p c ++ tokens_from (mode_begun p c) (suc p) (ds ++ bs)) (class_of-digit d test)
     ∙ ap (λ (v : ℕ). tokens_from (Digits p v) (suc p) (ds ++ bs)) value
-    ∙ tokens_from-digits ds bs p (0 + (d - 48)) (suc p) (and_right (is_digit d) (list_all is_digit ds) e) h
+    ∙ tokens_from-digits ds bs p (0 + (d - 48)) (suc p) (and_parts (is_digit d) (list_all is_digit ds) e).1 h
 
 pub tokens_from-lexed : {p : ℕ} {bs : List ℕ} {ts : List Token} → Lexes p bs ts → tokens_from Between p bs ≡ map held ts
 tokens_from-lexed nothing = refl

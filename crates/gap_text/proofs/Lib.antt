@@ -1,12 +1,13 @@
-pub mod Accepted
-pub mod Classes
-pub mod Counted
-pub mod Joined
-pub mod Lexed
-pub mod Placed
-pub mod Printed
-pub mod Run
-pub mod Spelled
-pub mod Stack
-pub mod Steps
-pub mod Views
+mod Accepted
+pub mod CallerLemmas
+mod Classes
+mod Counted
+mod Joined
+mod Lexed
+mod Placed
+mod Printed
+mod Run
+mod Spelled
+mod Stack
+mod Steps
+mod Views

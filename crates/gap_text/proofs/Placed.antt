@@ -1,5 +1,6 @@
 -- A fault has its place: the tokens before it may go on to a text of the grammar, and with its token they may not.
 use Rattle.std.proofs.Common.{◌≡◌, ℕ, zero, suc, ◌+◌, ◌≤◌, ◌⊎◌, inl, inr, List, [], ◌∷◌, ◌++◌, length, Bool, true, false, nat_lt, nat_le, if◌then◌else◌, Some, Result, Ok, Err, refl, sym, ◌∙◌, ap, subst, arith, append_assoc}
+use Rattle.std.proofs.lemmas.Bool.{ltb-true, leb-true}
 use Rattle.std.proofs.lemmas.Bool.Decides.{nat_tests}
 use Rattle.gap_text.specs.declared.fault.TextFault.{TextFault}
 use Rattle.gap_text.specs.declared.fault.TextFault.TheVariants.{BadByte, Unclosed, Stray, Stepped, BadRange, NumberTooBig, TooDeep}
@@ -11,7 +12,7 @@ use Rattle.gap_text.specs.Reading.{State, Level, Phase, AnyValue, FirstItem, Aft
 use Rattle.gap_text.specs.Places.{token_place, fault_place, MayGoOn, IsFullRange, IsRefused, at_token, at_end, FaultIsPlaced}
 use Rattle.gap_text.proofs.Run.{run-append-ok, read-append-ok}
 use Rattle.gap_text.proofs.Accepted.{range-step, read-spelled}
-use Rattle.gap_text.proofs.Spelled.{passed, same_state, no_state, below, at_most, spelled-read}
+use Rattle.gap_text.proofs.Spelled.{passed, same_state, no_state, spelled-read}
 
 -- ---- states that come up
 
@@ -58,7 +59,7 @@ number-reached AfterItem ls made p n next h few e = absurd (no_state (Stray p) n
 number-reached (RangeEnd q a) ls made p n next h few e =
     let s = at RangeClose (filled (counted q a (span a n)) ls) (made + span a n) in
     let g = passed (nat_le (made + span a n) 1000000) (Ok s) (BadRange p) next e in
-    same-reached s next (record { sound = filled-nonempty (counted q a (span a n)) ls h; few = at_most (made + span a n) 1000000 g.0 }) g.1
+    same-reached s next (record { sound = filled-nonempty (counted q a (span a n)) ls h; few = leb-true (made + span a n) 1000000 g.0 }) g.1
 number-reached RangeClose ls made p n next h few e = absurd (no_state (BadRange p) next e)
 number-reached (Whole v) ls made p n next h few e = absurd (no_state (Stray p) next e)
 number-reached (Over v) ls made p n next h few e = absurd (no_state (Stray p) next e)
@@ -166,7 +167,7 @@ completes (RangeEnd q a) [] made h few = absurd h
 completes (RangeEnd q zero) (l ∷ ls) made h few = by_test (nat_lt made 1000000) refl
   where
     by_test : (b : Bool) → nat_lt made 1000000 ≡ b → Completes (at (RangeEnd q 0) (l ∷ ls) made) ⊎ ((r : ℕ) × (RangeEnd q 0 ≡ RangeEnd r 0) × (made ≡ 1000000))
-    by_test true e = inl (complete-range l ls made q 0 (omega (arith, below made 1000000 e)))
+    by_test true e = inl (complete-range l ls made q 0 (omega (arith, ltb-true made 1000000 e)))
     by_test false e = let h : 1000000 ≤ made = grind (arith, nat_tests) in inr (q, refl, omega arith)
 completes (RangeEnd q (suc a)) (l ∷ ls) made h few = inl (complete-range l ls made q (suc a) (omega arith))
 completes (Whole v) ls made h few = inl (record { us = []; w = v; goes = refl })

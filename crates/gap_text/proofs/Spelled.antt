@@ -1,6 +1,6 @@
 -- What the machine reads, the grammar reads: from the value that it gives back to the rules.
 use Rattle.std.proofs.Common.{◌≡◌, ℕ, zero, suc, ◌+◌, ◌<◌, ◌≤◌, List, [], ◌∷◌, ◌++◌, length, Bool, true, false, nat_lt, nat_le, if◌then◌else◌, Result, Ok, Err, refl, sym, ◌∙◌, ap, subst, arith, append_assoc, add_assoc, add-zero, append-nil}
-use Rattle.std.proofs.lemmas.Bool.Decides.{nat_tests}
+use Rattle.std.proofs.lemmas.Bool.{ltb-true, leb-true}
 use Rattle.gap_text.specs.declared.fault.TextFault.{TextFault}
 use Rattle.gap_text.specs.declared.fault.TextFault.TheVariants.{NumberTooBig, BadRange, TooDeep, Stray}
 use Rattle.gap_text.specs.declared.state.Shape.{Shape}
@@ -37,12 +37,6 @@ same_state s next e = cc
 
 pub no_state : (f : TextFault) (next : State) → ◌≡◌ {A = Result State TextFault} (Err f) (Ok next) → ⊥
 no_state f next e = cc
-
-pub below : (m n : ℕ) → nat_lt m n ≡ true → m < n
-below m n e = grind (arith, nat_tests)
-
-pub at_most : (m n : ℕ) → nat_le m n ≡ true → m ≤ n
-at_most m n e = grind (arith, nat_tests)
 
 -- ---- what the rest of the tokens holds, by the state that is before them
 
@@ -145,7 +139,7 @@ first_number ls made q r n ts p w e =
     let s = at AfterItem (level q (number r n ∷ []) ∷ ls) made in
     let t = taken (at FirstItem (level q [] ∷ ls) made) (Number r n) ts p w e in
     let g = passed (nat_lt n too_big) (Ok s) (NumberTooBig r) t.next t.step_is in
-    record { fits = below n too_big g.0; goes = ap (λ (next : State). read next ts p) (same_state s t.next g.1) ∙ t.goes }
+    record { fits = ltb-true n too_big g.0; goes = ap (λ (next : State). read next ts p) (same_state s t.next g.1) ∙ t.goes }
 
 -- the end of a range
 data ClosesRange (l : Level) (ls : List Level) (made p : ℕ) (w : Value) : List Token → Type 0 where
@@ -195,7 +189,7 @@ range_list ls made q r a s (Number t b ∷ us) p w h shallow e =
     let inside : Result State TextFault = if nat_le (made + span a b) 1000000 then Ok next else Err (BadRange t) in
     let f = passed (nat_lt b too_big) inside (NumberTooBig t) k.next k.step_is in
     let g = passed (nat_le (made + span a b) 1000000) (Ok next) (BadRange t) k.next f.1 in
-    range_whole ls made q r a s t b p w h (below b too_big f.0) (at_most (made + span a b) 1000000 g.0) shallow
+    range_whole ls made q r a s t b p w h (ltb-true b too_big f.0) (leb-true (made + span a b) 1000000 g.0) shallow
     (range_closed (level q (counted r a (span a b))) ls (made + span a b) p w us (ap (λ (n : State). read n us p) (same_state next k.next g.1) ∙ k.goes))
 
 -- whether a range goes on
@@ -256,7 +250,7 @@ mutual
         v = number q n;
         us = ts;
         n = 0;
-        reads = a_number (below n too_big g.0);
+        reads = a_number (ltb-true n too_big g.0);
         goes = ap (λ (c : ℕ). read (put (number q n) ls c) ts p) (add-zero made) ∙ ap (λ (next : State). read next ts p) (same_state (put (number q n) ls made) t.next g.1) ∙ t.goes;
         few = omega arith;
         shallow = omega arith;
@@ -266,7 +260,7 @@ mutual
       let s = at FirstItem (level q [] ∷ ls) made in
       let t = taken (at AnyValue ls made) (Open q) ts p w e in
       let g = passed (nat_lt (length ls) 8) (Ok s) (TooDeep q) t.next t.step_is in
-      let r = list_read fuel ts q ls made p w (omega arith) few (below (length ls) 8 g.0) (ap (λ (next : State). read next ts p) (same_state s t.next g.1) ∙ t.goes) in
+      let r = list_read fuel ts q ls made p w (omega arith) few (ltb-true (length ls) 8 g.0) (ap (λ (next : State). read next ts p) (same_state s t.next g.1) ∙ t.goes) in
       record { v = list q r.vs; us = r.us; n = r.n; reads = r.reads; goes = r.goes; few = r.few; shallow = omega (arith, r.shallow); shorter = omega (arith, r.shorter) }
   value_read (suc fuel) (Close q ∷ ts) ls made p w short few shallow e = absurd (cc)
   value_read (suc fuel) (Comma q ∷ ts) ls made p w short few shallow e = absurd (cc)
@@ -297,7 +291,7 @@ mutual
       let s = at FirstItem (level r [] ∷ level q [] ∷ ls) made in
       let t = taken (at FirstItem (level q [] ∷ ls) made) (Open r) ts p w e in
       let g = passed (nat_lt (suc (length ls)) 8) (Ok s) (TooDeep r) t.next t.step_is in
-      let a = list_read fuel ts r (level q [] ∷ ls) made p w (omega arith) few (below (suc (length ls)) 8 g.0) (ap (λ (next : State). read next ts p) (same_state s t.next g.1) ∙ t.goes) in
+      let a = list_read fuel ts r (level q [] ∷ ls) made p w (omega arith) few (ltb-true (suc (length ls)) 8 g.0) (ap (λ (next : State). read next ts p) (same_state s t.next g.1) ∙ t.goes) in
       let b = tail_read fuel a.us q (list r a.vs) [] ls (made + a.n) p w (omega (arith, a.shorter)) a.few shallow (no_range_after_list r a.vs a.us) a.goes in
       list_of_items q made a.n ls (Open r ∷ ts) a.us (list r a.vs) p w a.reads a.few (omega (arith, a.shallow)) (omega (arith, a.shorter)) b
   list_read (suc fuel) (Comma r ∷ ts) q ls made p w short few shallow e = absurd (cc)

@@ -1,4 +1,9 @@
 -- Values as trees of numbers, one to one, so that a contract can tell them apart.
+--   code v, code_of_all vs      the tree of a value, of values
+--   code_injective v w e        values with the same tree are the same
+--   codes_injective vs ws e     the same of lists of values
+--   value_code                  this coding
+-- and, of trees: head, tail, IsNumber, IsPair, as their names say.
 use Rattle.std.specs.Prelude.{◌≡◌, refl}
 use Rattle.std.proofs.Common.{ap, sym, subst}
 use Rattle.std.specs.Coded.{Coded}

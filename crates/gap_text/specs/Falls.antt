@@ -1,4 +1,5 @@
 -- Each item of a list has fewer levels than the list.
+--   most_le-levels nests    the items are no deeper than the levels of the list
 use Rattle.std.specs.Prelude.{◌≤◌, max, List, [], ◌∷◌, map}
 use Rattle.std.proofs.Common.{arith}
 use denote.Param.Weighed.{most}

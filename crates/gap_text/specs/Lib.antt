@@ -1,3 +1,5 @@
+-- What contracts mean: Value, Nest, Tokens, Reading, Grammar, Places.
+-- What the code keeps for itself: Code, Falls, States, Readers.
 pub mod Value
 pub mod Code
 pub mod Nest

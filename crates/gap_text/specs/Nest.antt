@@ -1,4 +1,5 @@
 -- The value that a `Nest` is.
+--   view nest    the value
 use Rattle.gap_text.specs.declared.nest.Nest.{Nest}
 use Rattle.gap_text.specs.declared.nest.Nest.TheVariants.{Number, List}
 use Rattle.gap_text.specs.Value.{Value, number, list, values}

@@ -1,4 +1,12 @@
--- Where the reader is within a text, as the definition has it: the state that the whole tokens leave, and what the bytes after them have begun.
+-- Where the reader is within a text, as the definition has it: the state that the whole tokens leave, and what the bytes after
+-- them have begun. s is a state, m a mode, r a progress, i a place, c a class.
+--   Progress, progress s m    both together
+--   at_start                  before the first byte
+--   mode_of, reader_of        the mode and the progress that the code holds
+--   past s ts m               after these tokens, and with this begun
+--   fed r i c                 after a byte of this class
+--   begun s i c               the same where nothing was begun
+--   rest r i bs               the value of the text that goes on with these bytes
 use Rattle.std.specs.Prelude.{ℕ, ◌+◌, List, length, Result, Ok, Err}
 use Rattle.gap_text.specs.declared.fault.TextFault.{TextFault}
 use Rattle.gap_text.specs.declared.byte.Class.{Class}
@@ -29,18 +37,14 @@ mode_of (mode.Digits p n) = Digits p n
 abbrev pub reader_of : CodeReader → Progress
 reader_of r = progress (state_of r.state) (mode_of r.mode)
 
--- after these tokens, and with this begun
 abbrev pub past : State → List Token → Mode → Result Progress TextFault
 past s ts m = elim (run s ts) [ Ok next ↦ Ok (progress next m) | Err f ↦ Err f ]
 
--- after a byte of this class
 abbrev pub fed : Progress → ℕ → Class → Result Progress TextFault
 fed r i c = past r.state (tokens_at r.mode i c) (mode_after r.mode i c)
 
--- the same where nothing was begun
 abbrev pub begun : State → ℕ → Class → Result Progress TextFault
 begun s i c = past s (tokens_begun i c) (mode_begun i c)
 
--- the value of the text that goes on with these bytes
 abbrev pub rest : Progress → ℕ → List ℕ → Result Value TextFault
 rest r i bs = read r.state (tokens_from r.mode i bs) (i + length bs)

@@ -1,4 +1,25 @@
--- The value of a text, or its first fault: what the tokens so far allow next, one token at a time.
+-- The value of a text, or its first fault: what the tokens so far allow next, one token at a time. ls are the open lists, made
+-- how many numbers the ranges made, p the place of a token.
+--   Level, level place so_far        an open list: its place, and the values that it has so far
+--   Phase                            what may come next
+--   State, at phase ls made          a phase, the open lists, the innermost first, and how many numbers the ranges made
+--   start                            the state before the first token
+--   put v ls made                    a value was read: it is an item of the innermost list, or the value of the text
+--   refused phase p                  the fault of a token that is not allowed, other than `..`
+--   span a b                         how many numbers there are from a to b
+--   counted place a n                the numbers from a on, n of them, at one place
+--   takes_value, takes_close         whether a value may come, whether the innermost list may end
+--   closed ls made p                 the innermost list is over
+--   shape_of so_far                  what a list is so far, where a `..` comes
+--   range_begun shape place ls made p    a `..` begins a range where the innermost list is one number so far
+--   filled vs ls                     the innermost list gets the numbers of a range
+--   after_open, after_close, after_comma, after_dots, after_semicolon, after_number
+--                                    the state after such a token, or its fault
+--   step s t                         the state after a token, or its fault
+--   run s ts                         the same of tokens one after another
+--   value_at_end phase p             the value, at the end of the text, or that it is not closed
+--   read s ts p                      the value that tokens give from a state on, in a text of length p, or the first fault
+--   value_of text                    the value of a text, or its first fault
 use Rattle.std.specs.Prelude.{Bool, true, false, ℕ, zero, suc, ◌+◌, ◌-◌, List, [], ◌∷◌, ◌++◌, length, nat_lt, nat_le, if◌then◌else◌, Result, Ok, Err}
 use Rattle.gap_text.specs.declared.fault.TextFault.{TextFault}
 use Rattle.gap_text.specs.declared.fault.TextFault.TheVariants.{BadByte, Unclosed, Stray, Stepped, BadRange, NumberTooBig, TooDeep}
@@ -7,12 +28,10 @@ use Rattle.gap_text.specs.declared.state.Shape.TheVariants.{OneNumber, TwoNumber
 use Rattle.gap_text.specs.Value.{Value, number, list, values}
 use Rattle.gap_text.specs.Tokens.{Token, Open, Close, Comma, Dots, Semicolon, Number, Bad, tokens, too_big}
 
--- an open list: its place, and the values that it has so far
 pub record Level : Type 0 where
   pub place : ℕ
   pub so_far : List Value
 
--- what may come next
 pub data Phase : Type 0 where
   -- a value
   AnyValue : Phase
@@ -45,12 +64,10 @@ level place so_far = record { place = place; so_far = so_far }
 abbrev pub start : State
 start = at AnyValue [] 0
 
--- a value has been read: it is an item of the innermost list, or the value of the text
 abbrev pub put : Value → List Level → ℕ → State
 put v [] made = at (Whole v) [] made
 put v (l ∷ ls) made = at AfterItem (level l.place (l.so_far ++ v ∷ []) ∷ ls) made
 
--- the fault of a token that is not allowed, other than `..`
 abbrev pub refused : Phase → ℕ → TextFault
 refused (RangeEnd q a) p = BadRange p
 refused RangeClose p = BadRange p
@@ -58,24 +75,20 @@ refused _ p = Stray p
 
 -- ---- the values of a range
 
--- how many numbers there are from a to b
 abbrev pub span : ℕ → ℕ → ℕ
 span a b = suc b - a
 
--- the numbers from a on, n of them, at one place
 abbrev pub counted : (place a n : ℕ) → List Value
 counted place a zero = []
 counted place a (suc n) = number place a ∷ counted place (suc a) n
 
 -- ---- one token
 
--- a value may come
 abbrev pub takes_value : Phase → Bool
 takes_value AnyValue = true
 takes_value FirstItem = true
 takes_value _ = false
 
--- the innermost list may end
 abbrev pub takes_close : Phase → Bool
 takes_close FirstItem = true
 takes_close AfterItem = true
@@ -86,7 +99,6 @@ abbrev pub after_open : Phase → List Level → ℕ → ℕ → Result State Te
 after_open phase ls made p =
     if takes_value phase then (if nat_lt (length ls) 8 then Ok (at FirstItem (level p [] ∷ ls) made) else Err (TooDeep p)) else Err (refused phase p)
 
--- the innermost list is over
 abbrev pub closed : List Level → ℕ → ℕ → Result State TextFault
 closed [] made p = Err (Stray p)
 closed (l ∷ ls) made p = Ok (put (list l.place (values l.so_far)) ls made)
@@ -98,13 +110,11 @@ abbrev pub after_comma : Phase → List Level → ℕ → ℕ → Result State T
 after_comma AfterItem ls made p = Ok (at AnyValue ls made)
 after_comma phase ls made p = Err (refused phase p)
 
--- what a list is so far, where a `..` comes
 abbrev pub shape_of : List Value → Shape
 shape_of (number q a ∷ []) = OneNumber q a
 shape_of (number q a ∷ number r b ∷ []) = TwoNumbers
 shape_of _ = Longer
 
--- a `..` begins a range where the innermost list, which began here, is one number so far
 abbrev pub range_begun : Shape → ℕ → List Level → ℕ → ℕ → Result State TextFault
 range_begun (OneNumber q a) place ls made p = Ok (at (RangeEnd q a) (level place [] ∷ ls) made)
 range_begun TwoNumbers place ls made p = Err (Stepped p)
@@ -118,7 +128,6 @@ abbrev pub after_semicolon : Phase → List Level → ℕ → ℕ → Result Sta
 after_semicolon (Whole v) ls made p = Ok (at (Over v) ls made)
 after_semicolon phase ls made p = Err (refused phase p)
 
--- the innermost list gets the numbers of a range
 abbrev pub filled : List Value → List Level → List Level
 filled vs [] = []
 filled vs (l ∷ ls) = level l.place (l.so_far ++ vs) ∷ ls

@@ -1,4 +1,9 @@
--- The states of the reader, as the definition has them.
+-- The states of the code, as the definition has them.
+--   Gives see wanted result     the code's answer is what the definition gives, seen through see, or want of memory
+--   Takes wanted now result     the same of a call that changes a state, which is then now
+--   phase_of, level_of, levels_of, state_of
+--                               the phase, an open list, the open lists, the innermost first, and the state that the code holds
+--   levels_onto ls more         the open lists before these
 use Rattle.std.specs.Prelude.{◌≡◌, ◌≢◌, List, [], ◌∷◌, map, Result, Ok, Err}
 use Rattle.gap_text.specs.declared.fault.TextFault.{TextFault}
 use Rattle.gap_text.specs.declared.fault.TextFault.TheVariants.{Memory}
@@ -9,12 +14,10 @@ use Rattle.gap_text.specs.declared.state.State.{State as CodeState}
 use Rattle.gap_text.specs.Nest.{view}
 use Rattle.gap_text.specs.Reading.{State, Phase, Level, AnyValue, FirstItem, AfterItem, RangeEnd, RangeClose, Whole, Over, at, level}
 
--- the code's answer is what the definition gives, seen through `see`, or want of memory
 abbrev pub Gives : {A B : Type 0} → (see : A → B) → Result B TextFault → Result A TextFault → Type 0
 Gives see wanted (Ok a) = wanted ≡ Ok (see a)
 Gives see wanted (Err f) = f ≢ Memory → wanted ≡ Err f
 
--- the same of a call that changes a state, which is then this one
 abbrev pub Takes : {A B : Type 0} → Result B TextFault → (now : B) → Result A TextFault → Type 0
 Takes wanted now (Ok a) = wanted ≡ Ok now
 Takes wanted now (Err f) = f ≢ Memory → wanted ≡ Err f
@@ -31,7 +34,6 @@ phase_of (phase.Over n) = Over (view n)
 abbrev pub level_of : CodeLevel → Level
 level_of l = level l.place (map view l.so_far.items)
 
--- the open lists, the innermost first, before these
 abbrev pub levels_onto : List Level → List CodeLevel → List Level
 levels_onto ls [] = ls
 levels_onto ls (l ∷ more) = levels_onto (level_of l ∷ ls) more

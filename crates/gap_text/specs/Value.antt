@@ -1,4 +1,11 @@
--- A number or a list of values, each with the place of its first byte in the text, counted from 0.
+-- Values: numbers and lists of values, each with the place of its first byte in the text, counted from 0.
+--   Value          number place n, or list place vs
+--   Values         the values of a list: none, or more v vs
+--   items vs       the values as a list
+--   values vs      a list as values
+--   depth v        how many lists are nested in one another: 0 for a number, 1 for a list of numbers
+--   deepest vs     the greatest depth among the values
+--   levels vs      the same of a list of values
 use Rattle.std.specs.Prelude.{ℕ, ◌+◌, max, List, [], ◌∷◌}
 
 mutual
@@ -10,18 +17,15 @@ mutual
     none : Values
     more : Value → Values → Values
 
--- the values as a list
 abbrev pub items : Values → List Value
 items none = []
 items (more v vs) = v ∷ items vs
 
--- a list as values
 abbrev pub values : List Value → Values
 values [] = none
 values (v ∷ vs) = more v (values vs)
 
 abbrev mutual
-  -- how many lists are nested in one another: 0 for a number, 1 for a list of numbers
   pub depth : Value → ℕ
   depth (number place value) = 0
   depth (list place vs) = 1 + deepest vs

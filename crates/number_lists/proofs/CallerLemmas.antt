@@ -2,7 +2,7 @@
 
 -- ---- tests
 
--- the parts of two tests that hold together; a test that holds exactly where another does is the other
+-- the parts of two tests that hold together
 pub use Rattle.number_lists.proofs.Members.{and-left, and-right, same_bool}
 -- ---- members of lists
 
@@ -29,18 +29,30 @@ pub use Rattle.number_lists.proofs.Members.{In-range, range-In, In-upto, upto-In
 pub use Rattle.number_lists.proofs.Distinct.{AreDistinct, none, more, distinct-filter, distinct-at, distinct-append, distinct-map, distinct-flat_map, distinct-range}
 -- ---- increasing lists of numbers
 
+-- the numbers from a on
+pub use Rattle.number_lists.proofs.Increasing.{increasing-range}
 -- the numbers from 1 to n
 pub use Rattle.number_lists.proofs.Increasing.{length-upto, get_or-upto, upto_more, All-upto, holds-upto, increasing-upto, set-map-upto}
 -- the first number is below the others, and these increase too
 pub use Rattle.number_lists.proofs.Increasing.{increasing_head, increasing_tail}
--- a number is not among those before it, and stands once
-pub use Rattle.number_lists.proofs.Increasing.{holds-before, count-increasing, distinct_rising}
+-- a number is not among those before it, and stands at one place, once
+pub use Rattle.number_lists.proofs.Increasing.{holds-before, increasing-once, count-increasing, distinct_rising}
 -- increasing lists with the same members are the same; one with the members of a test is the filter of 1 to n
 pub use Rattle.number_lists.proofs.Increasing.{same_increasing, members_sorted}
 -- which numbers are in a list: in no such list, in one number more, in a filtered list
 pub use Rattle.number_lists.proofs.Increasing.{holds-none, holds_more, holds-filter}
 -- tests that agree at the elements of a list; a filtered list is no longer
 pub use Rattle.number_lists.proofs.Increasing.{filter_same, length-filter-le}
+-- ---- lists of any type
+
+-- maps by functions that agree
+pub use Rattle.number_lists.proofs.Mapped.{map_agree, flat_map_agree}
+-- maps, filters, tests and joins one after another; a map of the numbers below a sum
+pub use Rattle.number_lists.proofs.Mapped.{filter-map, list_any-map, flat_map-flat_map, map-flat_map, filter-flat_map, map-range_with_len_add}
+-- pairs of two lists joined
+pub use Rattle.number_lists.proofs.Mapped.{AllPairs-append}
+-- a list before and after an element that was read
+pub use Rattle.number_lists.proofs.Mapped.{take-slice_get, split-slice_get}
 -- ---- which lists hold a number
 
 -- one list more

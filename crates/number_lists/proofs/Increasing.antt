@@ -2,7 +2,9 @@
 use Rattle.std.proofs.Common.{◌≡◌, ◌≢◌, ◌⊎◌, inl, inr, ℕ, suc, ◌+◌, ◌-◌, ◌<◌, ◌≤◌, List, [], ◌∷◌, ◌++◌, length, take, get_or, map, Bool, true, false, cond, ◌||◌, ◌&&◌, eqb, refl, ap, sym, ◌∙◌, subst, arith, filter, All, Any, Contains, count_by, set, zero-add}
 use Rattle.std.specs.List.{range_with_len, IsDistinct}
 use Rattle.std.specs.List.Sorted.{IsStrictlyIncreasing}
-use Rattle.std.proofs.lemmas.Bool.{eqb-true, eq-eqb, ne_eqb, false≢true}
+use Rattle.std.specs.Cmp.{both_ways}
+use Rattle.std.proofs.lemmas.Bool.{eqb-true, eq-eqb, ne_eqb, false≢true, cases_lt}
+use Rattle.std.proofs.Math.Bool.{and-false}
 use Rattle.std.proofs.lemmas.Bool.Decides.{eqb_tells}
 use Rattle.std.proofs.lemmas.List.{map-id, get_or_default, get_or-take, length-take-le, same_lists, length-set, get_or-set_same, get_or-set_other}
 use Rattle.std.proofs.lemmas.List.FromFn.{map-range_with_len_more, length-map-range_with_len, get_or-map-range_with_len, length-range_with_len, get_or-range_with_len}
@@ -11,7 +13,6 @@ use Rattle.std.proofs.lemmas.List.Folds.{Any-from_list_any, list_any_at, list_an
 use Rattle.std.proofs.lemmas.List.Elements.{All-head, All-tail, recursion_from_All}
 use Rattle.std.proofs.lemmas.List.Kept.{AllPairs-from_increasing, IsStrictlyIncreasing-filter}
 use Rattle.number_lists.specs.Words.{upto, holds}
-use Rattle.number_lists.proofs.Members.{same_bool}
 
 pub upto_more : (n : ℕ) → upto (n + 1) ≡ upto n ++ (n + 1) ∷ []
 upto_more n =
@@ -74,6 +75,14 @@ pub increasing_head : (x : ℕ) (xs : List ℕ) → IsStrictlyIncreasing (x ∷ 
 increasing_head x xs h k d l =
     AllPairs-from_increasing (x ∷ xs) h 0 (suc k) d (omega arith) (omega arith)
 
+-- an increasing list has a number at one place only
+pub increasing-once : (xs : List ℕ) (i j : ℕ) → IsStrictlyIncreasing xs → i < length xs → j < length xs → get_or xs i 0 ≡ get_or xs j 0 → i ≡ j
+increasing-once xs i j h l m e =
+    elim (cases_lt i j) [
+      | inl q ↦ absurd (omega (arith, AllPairs-from_increasing xs h i j 0 q m, e))
+      | inr q ↦ elim (cases_lt j i) [ inl r ↦ absurd (omega (arith, AllPairs-from_increasing xs h j i 0 r l, e)) | inr r ↦ omega (arith, q, r) ]
+    ]
+
 -- an increasing list has each number at most once
 pub count-increasing : (xs : List ℕ) (y : ℕ) → IsStrictlyIncreasing xs → count_by (λ x. eqb x y) xs ≡ cond (holds xs y) 1 0
 count-increasing [] y h = refl
@@ -110,7 +119,7 @@ set-map-upto F G n g y low high here others =
 
 pub same_holds : (xs ys : List ℕ) (n : ℕ) → (Contains xs n → Contains ys n) → (Contains ys n → Contains xs n) → holds xs n ≡ holds ys n
 same_holds xs ys n f g =
-    same_bool (holds xs n) (holds ys n) (λ h. Contains-holds ys n (f (holds-Contains xs n h))) (λ h. Contains-holds xs n (g (holds-Contains ys n h)))
+    both_ways (holds xs n) (holds ys n) (λ h. Contains-holds ys n (f (holds-Contains xs n h))) (λ h. Contains-holds xs n (g (holds-Contains ys n h)))
 
 -- a number of an increasing list that is not the first is above it
 above_head : (x n : ℕ) (xs : List ℕ) → IsStrictlyIncreasing (x ∷ xs) → holds (x ∷ xs) n ≡ true → (n ≡ x) ⊎ (x < n)
@@ -153,14 +162,6 @@ same_increasing (x ∷ xs) (y ∷ ys) a b h =
     let rest : xs ≡ ys = same_increasing xs ys (increasing_tail x xs a) (increasing_tail x ys b') (λ n. tails x xs ys n a b' (h' n)) in
     ap (λ (zs : List ℕ). x ∷ zs) rest ∙ ap (λ (z : ℕ). z ∷ ys) (sym e)
 
-and_false : (b : Bool) → (b && false) ≡ false
-and_false true = refl
-and_false false = refl
-
-and_true : (b : Bool) → (b && true) ≡ b
-and_true true = refl
-and_true false = refl
-
 filter_step : (p : ℕ → Bool) (x : ℕ) (xs : List ℕ) (n : ℕ) → holds (filter p xs) n ≡ (p n && holds xs n)
     → (b : Bool) → p x ≡ b → holds (cond b (x ∷ filter p xs) (filter p xs)) n ≡ (p n && (eqb x n || holds xs n))
 filter_step p x xs n rest true e =
@@ -180,15 +181,16 @@ filter_step p x xs n rest false e =
 
 -- the members of a filtered list
 pub holds-filter : (p : ℕ → Bool) (xs : List ℕ) (n : ℕ) → holds (filter p xs) n ≡ (p n && holds xs n)
-holds-filter p [] n = sym (and_false (p n))
+holds-filter p [] n = sym (and-false (p n))
 holds-filter p (x ∷ xs) n = filter_step p x xs n (holds-filter p xs n) (p x) refl
 
+pub increasing-range : (a n : ℕ) → IsStrictlyIncreasing (range_with_len a n)
+increasing-range a n k l =
+    let m : k + 1 < n = omega (arith, l, length-range_with_len a n) in
+    omega (arith, get_or-range_with_len a n k 0 (omega arith), get_or-range_with_len a n (k + 1) 0 m)
+
 pub increasing-upto : (n : ℕ) → IsStrictlyIncreasing (upto n)
-increasing-upto n k l =
-    let lt : k + 1 < n = omega (arith, length-upto n) in
-    let a : get_or (upto n) k 0 ≡ k + 1 = get_or-upto n k (omega arith) in
-    let b : get_or (upto n) (k + 1) 0 ≡ k + 1 + 1 = get_or-upto n (k + 1) lt in
-    omega arith
+increasing-upto n = increasing-range 1 n
 
 pub holds-upto : (most n : ℕ) → 1 ≤ n → n ≤ most → holds (upto most) n ≡ true
 holds-upto most n low high =

@@ -4,6 +4,7 @@ mod Cuts
 mod Distinct
 mod Increasing
 mod Inserted
+mod Mapped
 mod Marked
 mod Members
 mod Reach

@@ -1,6 +1,7 @@
 -- Marks of the numbers that were found.
 use Rattle.std.proofs.Common.{◌≡◌, inl, inr, ℕ, ◌+◌, ◌-◌, ◌<◌, ◌≤◌, List, [], ◌∷◌, ◌++◌, Bool, true, false, cond, ◌||◌, eqb, length, take, get_or, set, replicate, refl, ap, sym, ◌∙◌, subst, arith}
 use Rattle.std.specs.List.{list_any, IsDistinct}
+use Rattle.std.specs.Cmp.{both_ways}
 use Rattle.std.proofs.Math.Bool.{or-false}
 use Rattle.std.proofs.lemmas.Bool.{eqb-true, eq-eqb, ne_eqb, false≢true, cases_eq, or_cases, or_left, or_right}
 use Rattle.std.proofs.lemmas.Cmp.{nat_eq_equiv}
@@ -10,7 +11,7 @@ use Rattle.std.proofs.lemmas.List.{get_or-replicate, length-set, get_or-set_same
 use Rattle.number_lists.specs.Words.{holds, upto}
 use Rattle.number_lists.specs.Members.{In}
 use Rattle.number_lists.specs.Found.{IsMarked}
-use Rattle.number_lists.proofs.Members.{same_bool, In-holds, holds-In, at-In, In-left, In-last, push-In}
+use Rattle.number_lists.proofs.Members.{In-holds, holds-In, at-In, In-left, In-last, push-In}
 use Rattle.number_lists.proofs.Increasing.{holds-upto, length-upto}
 use Rattle.number_lists.proofs.Touch.{IsTouched, touch-all}
 
@@ -24,7 +25,7 @@ length-inside xs ys d h = length-le_from_is_member nat_eq_equiv xs ys d (λ q e.
 
 -- whether a number more is there
 pub holds-push : (xs : List ℕ) (x n : ℕ) → holds (xs ++ x ∷ []) n ≡ (holds xs n || eqb x n)
-holds-push xs x n = same_bool (holds (xs ++ x ∷ []) n) (holds xs n || eqb x n)
+holds-push xs x n = both_ways (holds (xs ++ x ∷ []) n) (holds xs n || eqb x n)
     (λ e. elim (push-In xs x (holds-In (xs ++ x ∷ []) e)) [ inl k ↦ or_left (holds xs n) (eqb x n) (In-holds k) | inr k ↦ or_right (holds xs n) (eqb x n) (eq-eqb x n (sym k)) ])
     (λ e. elim (or_cases (holds xs n) (eqb x n) e) [ inl k ↦ In-holds (In-left (x ∷ []) (holds-In xs k)) | inr k ↦ subst (λ (z : ℕ). holds (xs ++ x ∷ []) z ≡ true) (eqb-true x n k) (In-holds (In-last xs x)) ])
 

@@ -2,6 +2,7 @@
 use Rattle.std.proofs.Common.{◌≡◌, ◌⊎◌, inl, inr, ℕ, zero, suc, ◌+◌, ◌<◌, ◌≤◌, List, [], ◌∷◌, ◌++◌, Bool, true, false, cond, ◌||◌, ◌&&◌, eqb, filter, map, reverse, length, get_or, refl, sym, ◌∙◌, subst, arith, Contains}
 use Rattle.std.specs.List.{list_any, list_all, flat_map, range_with_len}
 use Rattle.std.proofs.lemmas.Bool.{eqb-true, eq-eqb, false≢true, cases_eq, or_left, or_right, and_parts, and_from, false_from_ne_true}
+use Rattle.std.specs.Cmp.{both_ways}
 use Rattle.std.proofs.lemmas.List.{reverse-append}
 use Rattle.number_lists.specs.Words.{holds, upto}
 use Rattle.number_lists.specs.Members.{In, here, there}
@@ -14,11 +15,8 @@ and-left a b e = (and_parts a b e).0
 pub and-right : (a b : Bool) → (a && b) ≡ true → b ≡ true
 and-right a b e = (and_parts a b e).1
 
--- a test that holds exactly where another does is the other
 pub same_bool : (a b : Bool) → (a ≡ true → b ≡ true) → (b ≡ true → a ≡ true) → a ≡ b
-same_bool true b f g = sym (f refl)
-same_bool false true f g = g refl
-same_bool false false f g = refl
+same_bool a b f g = both_ways a b f g
 
 -- ---- members of any type
 

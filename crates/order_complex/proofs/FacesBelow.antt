@@ -3,7 +3,7 @@ use Rattle.std.proofs.Common.{◌≡◌, inl, inr, ℕ, zero, suc, ◌+◌, ◌-
 use Rattle.face_poset.specs.declared.cells.Cell.{Cell}
 use Rattle.face_poset.specs.Poset.{count, IsSpace}
 use Rattle.face_poset.specs.Below.{cell_at, closed_cell, closure, facets_of_all, IsBelow}
-use Rattle.face_poset.proofs.BelowLaw.{closed_cell-least}
+use Rattle.face_poset.proofs.CallerLemmas.{closed_cell-least}
 use Rattle.order_complex.specs.Chains.{all_faces, cells_before, id_of, all_cells, faces_of}
 use Rattle.order_complex.specs.Complex.{HasId}
 use Rattle.order_complex.specs.Laws.{FacesAreBelow}

@@ -1,7 +1,7 @@
 -- What the lists of `Chains` hold.
 use Rattle.std.proofs.Common.{◌≡◌, ℕ, zero, suc, ◌-◌, ◌≤◌, List, [], length, get_or, All, refl, ap, sym, ◌∙◌, subst, arith}
 use Rattle.face_poset.specs.Poset.{layer, count, cofaces_of, IsSpace, coface_layers}
-use Rattle.face_poset.proofs.SpaceLemmas.{cofaces_at}
+use Rattle.face_poset.proofs.CallerLemmas.{cofaces_at}
 use Rattle.order_complex.specs.Chains.{chains_of, chain_count}
 use Rattle.order_complex.specs.Order.{IsOrdered}
 use Rattle.order_complex.specs.Complex.{complex_of, chain_layers, facet_layers}

@@ -1,11 +1,12 @@
 use Rattle.std.proofs.Common.{◌≡◌, ◌<◌, ◌++◌, ◌∷◌, [], ◌+◌, ℕ, List, length, take, map, sym, ◌∙◌, ap, Ok, Some, slice_get, arith}
 use Rattle.std.proofs.lemmas.List.{map-append}
 use Rattle.std.proofs.lemmas.Result.{err_from_is_err_and}
+use Rattle.number_lists.proofs.CallerLemmas.{take-slice_get}
 use Rattle.gap_text.specs.Nest.{view}
 use Rattle.gap_text.specs.Value.{Value, number, list}
 use Rattle.face_poset.specs.Reader.{each_from, as_list}
-use Rattle.face_poset.specs.Layers.{inner}
-use Rattle.face_poset.proofs.Each.{each-more, each-fault, take_at}
+use Rattle.face_poset.specs.Tops.{inner}
+use Rattle.face_poset.proofs.Each.{each-more, each-fault}
 use Rattle.face_poset.proofs.reader.check_lists.Goals as goal
 
 pub returns-in_err-list_of-clause-fault : goal.returns-in_err-list_of-clause-fault
@@ -24,7 +25,7 @@ more : (tops : List Value) (i : ℕ) (v : Value) (ys : List Value) → i < lengt
     → each_from 0 (λ _ w. as_list w) (take (i + 1) tops) ≡ Ok (map inner (take (i + 1) tops))
 more tops i v ys l e h k =
     each-more 0 (λ _ w. as_list w) tops i v (map inner (take i tops)) (map inner (take (i + 1) tops)) ys l e h k
-    (ap (map inner) (take_at tops i v l e) ∙ (map-append inner (take i tops) (v ∷ []) ∙ ap (λ (ws : List Value). map inner (take i tops) ++ ws ∷ []) (sym (items-are v ys k))))
+    (ap (map inner) (take-slice_get tops i v l e) ∙ (map-append inner (take i tops) (v ∷ []) ∙ ap (λ (ws : List Value). map inner (take i tops) ++ ws ∷ []) (sym (items-are v ys k))))
 
 pub loop-index-preserved : goal.loop-index-preserved
 loop-index-preserved c =

@@ -1,7 +1,7 @@
 use Rattle.std.proofs.Common.{◌≡◌, ℕ, List, length, take, map, sum_by, sym, ◌∙◌, ap, arith}
 use Rattle.std.proofs.lemmas.List.{length-map}
 use Rattle.gap_text.specs.Value.{Value}
-use Rattle.face_poset.specs.Layers.{inner, kept}
+use Rattle.face_poset.specs.Tops.{inner, kept}
 use Rattle.face_poset.proofs.LayerLemmas.{trimmed-le, trimmed-take, sized-many}
 use Rattle.face_poset.proofs.reader.check_sizes.Goals as goal
 

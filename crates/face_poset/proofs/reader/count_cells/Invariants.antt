@@ -1,5 +1,5 @@
 use Rattle.std.proofs.Common.{◌≡◌, ◌≤◌, ◌*◌, take, length, map, sum_by}
-use Rattle.face_poset.specs.Layers.{inner}
+use Rattle.face_poset.specs.Tops.{inner}
 use Rattle.face_poset.proofs.reader.count_cells.Given as goal
 
 abbrev pub invariant-loop-index : goal.invariant-loop-index

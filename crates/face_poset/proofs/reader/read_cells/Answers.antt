@@ -5,7 +5,7 @@ use Rattle.gap_text.specs.Nest.{view}
 use Rattle.gap_text.specs.declared.nest.Nest.{Nest}
 use Rattle.gap_text.specs.Value.{Value}
 use Rattle.face_poset.specs.Reader.{cell_from, layer_from}
-use Rattle.face_poset.specs.Layers.{inner}
+use Rattle.face_poset.specs.Tops.{inner}
 use Rattle.face_poset.proofs.Each.{each-more, each-fault}
 use Rattle.face_poset.proofs.Values.{items-values}
 use Rattle.face_poset.proofs.reader.read_cells.Goals as goal

@@ -3,7 +3,7 @@ use Rattle.std.proofs.lemmas.Result.{MatchResult-weaker}
 use Rattle.gap_text.specs.Nest.{view}
 use Rattle.gap_text.specs.Value.{Value}
 use Rattle.face_poset.specs.Reader.{layer_from, cells_in}
-use Rattle.face_poset.specs.Layers.{inner, kept}
+use Rattle.face_poset.specs.Tops.{inner, kept}
 use Rattle.face_poset.proofs.LayerLemmas.{cells-of, no-cells}
 use Rattle.face_poset.proofs.reader.read_layer.Goals as goal
 

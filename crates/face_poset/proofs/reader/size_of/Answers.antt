@@ -1,7 +1,7 @@
 use Rattle.std.proofs.Common.{ap, ◌∙◌, sym, length}
 use Rattle.gap_text.specs.Nest.{view}
 use Rattle.gap_text.specs.declared.nest.Nest.{Nest}
-use Rattle.face_poset.specs.Layers.{inner}
+use Rattle.face_poset.specs.Tops.{inner}
 use Rattle.face_poset.proofs.Values.{items-values}
 use Rattle.face_poset.proofs.reader.size_of.Goals as goal
 

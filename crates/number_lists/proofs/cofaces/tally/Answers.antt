@@ -1,20 +1,16 @@
-use Rattle.std.proofs.Common.{◌≡◌, ◌≢◌, ◌<◌, ◌≤◌, ◌+◌, ◌-◌, ◌∷◌, [], ℕ, zero, suc, zero-add, add-zero, Bool, true, List, cond, eqb, length, take, get_or, map, set, replicate, refl, sym, ◌∙◌, ap, arith}
+use Rattle.std.proofs.Common.{◌≡◌, ◌≢◌, ◌<◌, ◌≤◌, ◌+◌, ◌-◌, ◌∷◌, [], ℕ, zero-add, add-zero, Bool, true, List, cond, eqb, length, take, get_or, map, set, replicate, refl, sym, ◌∙◌, ap, arith}
 use Rattle.std.proofs.lemmas.List.{take_more, length-take-le}
 use Rattle.std.proofs.lemmas.List.FromFn.{length-map-range_with_len, get_or-map-range_with_len}
-use Rattle.std.specs.List.{range_with_len}
 use Rattle.std.proofs.lemmas.Bool.{eq-eqb, ne_eqb}
+use Rattle.std.proofs.lemmas.Simd.{splat_is_map}
 use Rattle.std.proofs.lemmas.List.Sums.{count_by-le-length}
 use Rattle.number_lists.specs.Words.{upto}
 use Rattle.number_lists.proofs.Counting.{times, times-append}
-use Rattle.number_lists.proofs.Increasing.{set-map-upto}
+use Rattle.number_lists.proofs.Increasing.{set-map-upto, length-upto}
 use Rattle.number_lists.proofs.cofaces.tally.Goals as goal
 
-zeros : (a n : ℕ) → replicate {A = ℕ} n 0 ≡ map {A = ℕ} (λ _. 0) (range_with_len a n)
-zeros a zero = refl
-zeros a (suc n) = ap (λ (ns : List ℕ). 0 ∷ ns) (zeros (a + 1) n)
-
 none_yet : (counts xs : List ℕ) (most : ℕ) → counts ≡ replicate {A = ℕ} most 0 → counts ≡ map (λ n. times n (take 0 xs)) (upto most)
-none_yet counts xs most e = e ∙ zeros 1 most
+none_yet counts xs most e = e ∙ splat_is_map (upto most) most 0 (length-upto most)
 
 pub loop-number-init : goal.loop-number-init
 loop-number-init c = none_yet c.in_ok-counts.counts.items c.args.numbers.now c.args.most (c.in_ok-counts.ensures.items_if_clones_equal (λ y e. e))
