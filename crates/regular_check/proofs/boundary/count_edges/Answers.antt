@@ -2,7 +2,7 @@ use Rattle.std.proofs.Common.{◌≡◌, ◌≤◌, ℕ, List, [], length, ap, �
 use Rattle.std.specs.List.{flat_map}
 use Rattle.face_poset.specs.Poset.{IsCell, IsSpace, count, cell_count, facets_of}
 use Rattle.face_poset.specs.Below.{facets_of_all}
-use Rattle.face_poset.proofs.BelowLemmas.{facets_few}
+use Rattle.face_poset.proofs.CallerLemmas.{facets_few}
 use Rattle.number_lists.specs.Found.{inserted_all}
 use Rattle.regular_check.proofs.Distinct.{length-edges}
 use Rattle.regular_check.proofs.boundary.count_edges.Goals as goal
