@@ -3,7 +3,8 @@ use Rattle.std.proofs.Common.{◌≡◌, ℕ, ◌+◌, ◌<◌, List, length, ge
 use Rattle.face_poset.specs.Poset.{cofaces_of}
 use Rattle.vector_field.specs.Pairs.{counts_of}
 use Rattle.vector_field.specs.Pairings.{HasCell}
-use Rattle.vector_field.proofs.Members.{In, at-In}
+use Rattle.number_lists.specs.Members.{In}
+use Rattle.number_lists.proofs.CallerLemmas.{at-In}
 use Rattle.vector_field.proofs.MaximalTest.{Coface, cofaces-In}
 use Rattle.vector_field.proofs.InRange.{has_cell}
 

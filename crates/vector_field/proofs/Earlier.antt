@@ -7,7 +7,8 @@ use Rattle.face_poset.specs.Poset.{facets_of}
 use Rattle.vector_field.specs.Pairs.{has_lower, others, IsValid}
 use Rattle.vector_field.specs.Paths.{Leads, arrived, along, GradientPath}
 use Rattle.vector_field.specs.Laws.{IsClosed, AddedPairCloses, ValidClosesNone, SubstitutionEnds}
-use Rattle.vector_field.proofs.Members.{In, filter-In, any-some, In-Contains, Contains-In, at-In}
+use Rattle.number_lists.specs.Members.{In}
+use Rattle.number_lists.proofs.CallerLemmas.{filter-In, any-some, at-In, In-Contains, Contains-In}
 use Rattle.vector_field.proofs.Lined.{Lined}
 use Rattle.vector_field.proofs.Valid.{Goes, lined-from, has_lower-true}
 use Rattle.vector_field.proofs.Paths.{other-In}
@@ -49,39 +50,40 @@ module _ (space : List (List (List ℕ))) (pairs : List Pair) (valid : IsValid s
   -- what the pairs lead to from another facet stands earlier
   falls : (dim : ℕ) (r : Pair) (k : Contains pairs r) → r.dim ≡ dim → {g : ℕ} (p : Pair) (i : Contains pairs p) → p.dim ≡ dim → In g (others space p) → Leads space pairs dim r.lower g → k.0 < i.0
   falls dim r k e p i d m arrived = earlier p r i.0 k.0 i.1 k.1 i.2 (at p k) (e ∙ sym d) m
-  falls dim r k e p i d m (along q j f o h) =
+  falls dim r k e p i d m (along q n f o h) =
+      let j : Contains pairs q = In-Contains n in
       let a : j.0 < i.0 = earlier p q i.0 j.0 i.1 j.1 i.2 (at p j) (f ∙ sym d) m in
-      let b : k.0 < j.0 = falls dim r k e q j f (Contains-In o) h in
+      let b : k.0 < j.0 = falls dim r k e q j f o h in
       omega arith
 
-  none-closed : (p : Pair) → Contains pairs p → IsClosed space pairs p → ⊥
-  none-closed p c h = omega (arith, falls p.dim p c refl p c refl (Contains-In h.other) h.leads)
+  none-closed : (p : Pair) → In p pairs → IsClosed space pairs p → ⊥
+  none-closed p m h = let c : Contains pairs p = In-Contains m in omega (arith, falls p.dim p c refl p c refl h.other h.leads)
 
   module _ (dim : ℕ) (known : ℕ → Bool)
-      (free : (p : Pair) (f : ℕ) → Contains pairs p → p.dim ≡ dim → Contains (others space p) f → list_any (has_lower dim f) pairs ≡ false → known f ≡ true)
-      (step : (p : Pair) → Contains pairs p → p.dim ≡ dim → ((f : ℕ) → Contains (others space p) f → known f ≡ true) → known p.lower ≡ true) where
+      (free : (p : Pair) (f : ℕ) → In p pairs → p.dim ≡ dim → In f (others space p) → list_any (has_lower dim f) pairs ≡ false → known f ≡ true)
+      (step : (p : Pair) → In p pairs → p.dim ≡ dim → ((f : ℕ) → In f (others space p) → known f ≡ true) → known p.lower ≡ true) where
     -- at all places below n
     below : (n : ℕ) (p : Pair) → (c : Contains pairs p) → c.0 < n → p.dim ≡ dim → known p.lower ≡ true
     below zero p c l d = absurd (omega arith)
-    below (suc n) p c l d = step p c d (λ f o. by f o (cases_Bool (list_any (has_lower dim f) pairs)) (λ q k i e. below n q k i e))
+    below (suc n) p c l d = step p (Contains-In c) d (λ f o. by f o (cases_Bool (list_any (has_lower dim f) pairs)) (λ q k i e. below n q k i e))
       where
-        by : (f : ℕ) → Contains (others space p) f → (list_any (has_lower dim f) pairs ≡ true) ⊎ (list_any (has_lower dim f) pairs ≡ false)
+        by : (f : ℕ) → In f (others space p) → (list_any (has_lower dim f) pairs ≡ true) ⊎ (list_any (has_lower dim f) pairs ≡ false)
             → ((q : Pair) → (k : Contains pairs q) → k.0 < n → q.dim ≡ dim → known q.lower ≡ true) → known f ≡ true
-        by f o (inr e) rec = free p f c d o e
+        by f o (inr e) rec = free p f (Contains-In c) d o e
         by f o (inl e) rec =
             let s = any-some (has_lower dim f) pairs e in
             let t = has_lower-true s.0 dim f s.2 in
             let k : Contains pairs s.0 = In-Contains s.1 in
-            let lt : k.0 < c.0 = earlier p s.0 c.0 k.0 c.1 k.1 c.2 (at p k) (t.0 ∙ sym d) (subst (λ (z : ℕ). In z (others space p)) (sym t.1) (Contains-In o)) in
+            let lt : k.0 < c.0 = earlier p s.0 c.0 k.0 c.1 k.1 c.2 (at p k) (t.0 ∙ sym d) (subst (λ (z : ℕ). In z (others space p)) (sym t.1) o) in
             subst (λ (z : ℕ). known z ≡ true) t.1 (rec s.0 k (omega arith) t.0)
 
 pub valid_closes_none : ValidClosesNone
 valid_closes_none space pairs p valid c h = none-closed space pairs valid p c h
 
 pub substitution_ends : SubstitutionEnds
-substitution_ends space pairs dim known valid free step p c d = below space pairs valid dim known free step (suc c.0) p c (omega arith) d
+substitution_ends space pairs dim known valid free step p m d = let c : Contains pairs p = In-Contains m in below space pairs valid dim known free step (suc c.0) p c (omega arith) d
 
 pub added_pair_closes : AddedPairCloses
 added_pair_closes space pairs p m i a b =
     let g : GradientPath space pairs p.dim p.upper p.lower = m p.dim p.lower p.upper i a b in
-    record { first = g.first; other = In-Contains (other-In space p g.first (Contains-In g.facet) g.other); leads = g.leads }
+    record { first = g.first; other = other-In space p g.first g.facet g.other; leads = g.leads }

@@ -1,9 +1,10 @@
 -- Facets and cofaces are cells that are there.
 use Rattle.std.proofs.Common.{◌≡◌, ℕ, ◌+◌, ◌-◌, ◌≤◌, List, [], get_or, ap, subst, arith}
 use Rattle.face_poset.specs.Poset.{count, facets_of, IsCell, IsSpace}
+use Rattle.number_lists.proofs.CallerLemmas.{In-Contains}
 use Rattle.vector_field.specs.Pairs.{counts_of}
 use Rattle.vector_field.specs.Pairings.{HasCell}
-use Rattle.vector_field.proofs.Members.{In, In-Contains}
+use Rattle.number_lists.specs.Members.{In}
 use Rattle.vector_field.proofs.Places.{count-at}
 
 pub facets-cell : (space : List (List (List ℕ))) (dim cell : ℕ) → IsSpace space → 1 ≤ dim → 1 ≤ cell → cell ≤ count space dim → IsCell (count space (dim - 1)) (facets_of space dim cell)

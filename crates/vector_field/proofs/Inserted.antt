@@ -3,13 +3,14 @@ use Rattle.std.proofs.Common.{◌≡◌, ◌⊎◌, inl, inr, ℕ, suc, ◌+◌,
 use Rattle.std.proofs.lemmas.Bool.{cases_Bool, both_ways, and_parts, and_from, eqb-true, eq-eqb, not-true, not_from_false}
 use Rattle.std.proofs.lemmas.List.{length-append}
 use Rattle.face_poset.specs.declared.cells.Pair.{Pair}
-use Rattle.face_poset.specs.Words.{holds}
+use Rattle.number_lists.specs.Words.{holds}
 use Rattle.face_poset.specs.Poset.{facets_of}
 use Rattle.vector_field.specs.Pairs.{pair, is_used, is_incident, IsValid}
 use Rattle.vector_field.specs.Paths.{Leads, arrived, along, leads_to, has_path}
 use Rattle.vector_field.specs.Pairings.{is_late, inserted}
 use Rattle.vector_field.specs.Searches.{IsLed}
-use Rattle.vector_field.proofs.Members.{In, here, there, In-cases, In-filter, filter-In, In-inside, In-left, In-right, append-In, any-In, holds-In, In-Contains}
+use Rattle.number_lists.specs.Members.{In, here, there}
+use Rattle.number_lists.proofs.CallerLemmas.{In-cases, In-filter, filter-In, In-inside, In-left, In-right, append-In, any-In, holds-In}
 use Rattle.vector_field.proofs.Lined.{lined-append, lined-filter, lined-two}
 use Rattle.vector_field.proofs.Valid.{Apart, apart-sym, Goes, IsLined, valid-from, lined-from, unused-In}
 use Rattle.vector_field.proofs.Paths.{leads-sound, leads-complete}
@@ -106,7 +107,7 @@ module _ (space : List (List (List ℕ))) (ps : List Pair) (dim a b : ℕ) (foun
 
   -- what is early may stand before the new pair
   early-new : (q : Pair) → In q ps → is_late dim found q ≡ false → Goes space q (pair dim a b)
-  early-new q m e = record { apart = apart-new q m; free = λ d i. both_ways (is_late dim found q) e (leads-late q (sym d) (along q (In-Contains m) (sym d) (In-Contains i) arrived)) }
+  early-new q m e = record { apart = apart-new q m; free = λ d i. both_ways (is_late dim found q) e (leads-late q (sym d) (along q m (sym d) i arrived)) }
 
   -- the new pair may stand before what is late
   new-late : (r : Pair) → In r ps → is_late dim found r ≡ true → Goes space (pair dim a b) r
@@ -127,7 +128,7 @@ module _ (space : List (List (List ℕ))) (ps : List Pair) (dim a b : ℕ) (foun
     ];
     free = λ d i.
         let l = late-leads r f in
-        both_ways (is_late dim found q) e (leads-late q (sym d ∙ l.0) (along q (In-Contains m) (sym d ∙ l.0) (In-Contains i) l.1));
+        both_ways (is_late dim found q) e (leads-late q (sym d ∙ l.0) (along q m (sym d ∙ l.0) i l.1));
   }
 
   pub inserted-valid : IsValid space (inserted ps (pair dim a b) found)

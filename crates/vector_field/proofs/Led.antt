@@ -1,45 +1,23 @@
 -- The search finds exactly what leads to a cell.
-use Rattle.std.proofs.Common.{◌≡◌, ◌≢◌, ◌⊎◌, inl, inr, ℕ, ◌+◌, ◌<◌, ◌≤◌, List, [], ◌∷◌, ◌++◌, Bool, true, false, cond, not, eqb, length, get_or, refl, ap, sym, ◌∙◌, subst, arith, Contains}
+use Rattle.std.proofs.Common.{◌≡◌, ◌≢◌, ◌⊎◌, inl, inr, ℕ, ◌+◌, ◌<◌, ◌≤◌, List, [], ◌∷◌, ◌++◌, true, not, eqb, length, get_or, refl, ap, sym, ◌∙◌, subst, arith}
 use Rattle.std.proofs.lemmas.Bool.{eqb-false, not-true, cases_lt, false≢true}
-use Rattle.std.proofs.lemmas.List.{length_push, get_or_append_left, get_or_default}
 use Rattle.face_poset.specs.declared.cells.Pair.{Pair}
-use Rattle.face_poset.specs.Words.{holds}
+use Rattle.number_lists.specs.Words.{holds}
 use Rattle.face_poset.specs.Poset.{count, facets_of, cofaces_of}
 use Rattle.vector_field.specs.Pairs.{pair, is_incident, others}
 use Rattle.vector_field.specs.Paths.{Leads, arrived, along, leads_to}
-use Rattle.vector_field.specs.Founds.{with_number}
 use Rattle.vector_field.specs.Searches.{IsLed, IsStep, HasSteps}
-use Rattle.vector_field.proofs.Members.{In, here, In-cases, filter-In, In-inside, In-holds, holds-In, In-Contains, Contains-In, In-left, In-last, push-In, at-In, same_bool}
+use Rattle.number_lists.specs.Members.{In, here}
+use Rattle.number_lists.proofs.CallerLemmas.{In-cases, filter-In, In-inside, In-holds, holds-In, In-left, In-last, push-In, at-In, same_bool, In-at, IsMore}
 use Rattle.vector_field.proofs.Paths.{other-In, leads-sound, leads-complete}
 use Rattle.vector_field.proofs.MaximalTest.{incident-true, cofaces-In, In-cofaces}
-
--- one number more
-pub record IsMore (n : ℕ) (old new : List ℕ) : Type 0 where
-  pub long : length old ≤ length new
-  pub begins : (k : ℕ) → k < length old → get_or new k 0 ≡ get_or old k 0
-  pub kept : (x : ℕ) → holds old x ≡ true → holds new x ≡ true
-  pub there : holds new n ≡ true
-  pub only : (x : ℕ) → holds new x ≡ true → (holds old x ≡ true) ⊎ (x ≡ n)
-
-pub is_more : (n : ℕ) (old : List ℕ) → IsMore n old (with_number old n)
-is_more n old = by (holds old n) refl
-  where
-    by : (b : Bool) → holds old n ≡ b → IsMore n old (cond b old (old ++ n ∷ []))
-    by true e = record { long = omega arith; begins = λ k l. refl; kept = λ x h. h; there = e; only = λ x h. inl h }
-    by false e = record {
-      long = omega (arith, length_push old n);
-      begins = λ k l. get_or_append_left old (n ∷ []) 0 k l;
-      kept = λ x h. In-holds (In-left (n ∷ []) (holds-In old h));
-      there = In-holds (In-last old n);
-      only = λ x h. elim (push-In old n (holds-In (old ++ n ∷ []) h)) [ inl k ↦ inl (In-holds k) | inr k ↦ inr k ];
-    }
 
 module _ (pairs : List Pair) (dim facet : ℕ) where
   -- a lower other than the facet of a pair with one of these uppers
   pub record IsStepBy (uppers : List ℕ) (lower : ℕ) : Type 0 where
     pub upper : ℕ
     pub among : holds uppers upper ≡ true
-    pub paired : Contains pairs (pair dim lower upper)
+    pub paired : In (pair dim lower upper) pairs
     pub other : lower ≢ facet
 
   pub record IsAdding (uppers old new : List ℕ) : Type 0 where
@@ -56,31 +34,31 @@ module _ (pairs : List Pair) (dim facet : ℕ) where
   step_wider uppers u lower s = record { upper = s.upper; among = In-holds (In-left (u ∷ []) (holds-In uppers s.among)); paired = s.paired; other = s.other }
 
   -- an upper more, whose lower is found too
-  pub adding-found : (uppers old new new' : List ℕ) (u l : ℕ) → Contains pairs (pair dim l u) → l ≢ facet → ((p q : Pair) → Contains pairs p → Contains pairs q → p.dim ≡ q.dim → p.upper ≡ q.upper → p ≡ q)
-      → IsMore l new new' → IsAdding uppers old new → IsAdding (uppers ++ u ∷ []) old new'
+  pub adding-found : (uppers old new new' : List ℕ) (u l : ℕ) → In (pair dim l u) pairs → l ≢ facet → ((p q : Pair) → In p pairs → In q pairs → p.dim ≡ q.dim → p.upper ≡ q.upper → p ≡ q)
+      → IsMore new l new' → IsAdding uppers old new → IsAdding (uppers ++ u ∷ []) old new'
   adding-found uppers old new new' u l m n one w h = record {
     long = omega (arith, w.long, h.long);
-    begins = λ k lt. w.begins k (omega (arith, h.long)) ∙ h.begins k lt;
-    kept = λ x e. w.kept x (h.kept x e);
+    begins = λ k lt. w.place k (omega (arith, lt, h.long)) ∙ h.begins k lt;
+    kept = λ x e. In-holds (w.kept x (holds-In new (h.kept x e)));
     added = λ x s. elim (push-In uppers u (holds-In (uppers ++ u ∷ []) s.among)) [
-      | inl i ↦ w.kept x (h.added x (record { upper = s.upper; among = In-holds i; paired = s.paired; other = s.other }))
-      | inr e ↦ let same : pair dim x s.upper ≡ pair dim l u = one (pair dim x s.upper) (pair dim l u) s.paired m refl e in subst (λ (z : ℕ). holds new' z ≡ true) (sym (ap (λ (p : Pair). p.lower) same)) w.there
+      | inl i ↦ In-holds (w.kept x (holds-In new (h.added x (record { upper = s.upper; among = In-holds i; paired = s.paired; other = s.other }))))
+      | inr e ↦ let same : pair dim x s.upper ≡ pair dim l u = one (pair dim x s.upper) (pair dim l u) s.paired m refl e in subst (λ (z : ℕ). holds new' z ≡ true) (sym (ap (λ (p : Pair). p.lower) same)) (In-holds w.there)
     ];
-    only = λ x e. elim (w.only x e) [
-      | inl k ↦ elim (h.only x k) [ inl a ↦ inl a | inr a ↦ inr (step_wider uppers u x a) ]
-      | inr k ↦ inr (record { upper = u; among = In-holds (In-last uppers u); paired = subst (λ (z : ℕ). Contains pairs (pair dim z u)) (sym k) m; other = λ e. n (sym k ∙ e) })
+    only = λ x e. elim (w.only x (holds-In new' e)) [
+      | inl k ↦ elim (h.only x (In-holds k)) [ inl a ↦ inl a | inr a ↦ inr (step_wider uppers u x a) ]
+      | inr k ↦ inr (record { upper = u; among = In-holds (In-last uppers u); paired = subst (λ (z : ℕ). In (pair dim z u) pairs) (sym k) m; other = λ e. n (sym k ∙ e) })
     ];
   }
 
   -- an upper more, with no lower but the facet
-  pub adding-skip : (uppers old new : List ℕ) (u : ℕ) → ((l : ℕ) → Contains pairs (pair dim l u) → l ≡ facet) → IsAdding uppers old new → IsAdding (uppers ++ u ∷ []) old new
+  pub adding-skip : (uppers old new : List ℕ) (u : ℕ) → ((l : ℕ) → In (pair dim l u) pairs → l ≡ facet) → IsAdding uppers old new → IsAdding (uppers ++ u ∷ []) old new
   adding-skip uppers old new u none h = record {
     long = h.long;
     begins = h.begins;
     kept = h.kept;
     added = λ x s. elim (push-In uppers u (holds-In (uppers ++ u ∷ []) s.among)) [
       | inl i ↦ h.added x (record { upper = s.upper; among = In-holds i; paired = s.paired; other = s.other })
-      | inr e ↦ absurd (s.other (none x (subst (λ (z : ℕ). Contains pairs (pair dim x z)) e s.paired)))
+      | inr e ↦ absurd (s.other (none x (subst (λ (z : ℕ). In (pair dim x z) pairs) e s.paired)))
     ];
     only = λ x e. elim (h.only x e) [ inl a ↦ inl a | inr a ↦ inr (step_wider uppers u x a) ];
   }
@@ -115,7 +93,7 @@ module _ (space : List (List (List ℕ))) (pairs : List Pair) (dim last : ℕ) w
     closed = λ k l. absurd (omega (arith, l));
   }
 
-  module _ (incident : (p : Pair) → Contains pairs p → is_incident space p ≡ true) where
+  module _ (incident : (p : Pair) → In p pairs → is_incident space p ≡ true) where
     step_in : (facet lower : ℕ) → (s : IsStep space pairs dim facet lower) → In facet (others space (pair dim lower s.upper))
     step_in facet lower s = other-In space (pair dim lower s.upper) facet (cofaces-In space dim facet s.upper (holds-In (cofaces_of space dim facet) s.coface)).facet (λ e. s.other (sym e))
 
@@ -128,7 +106,7 @@ module _ (space : List (List (List ℕ))) (pairs : List Pair) (dim last : ℕ) w
       ];
       leads = λ y e. elim (h.only y e) [
         | inl k ↦ s.leads y k
-        | inr k ↦ along (pair dim y k.upper) k.paired refl (In-Contains (step_in facet y k)) (s.leads facet (In-holds (at-In found head 0 l)))
+        | inr k ↦ along (pair dim y k.upper) k.paired refl (step_in facet y k) (s.leads facet (In-holds (at-In found head 0 l)))
       ];
       closed = λ k a b p m d o. by k (cases_lt k head) a p m d o;
     }
@@ -143,17 +121,17 @@ module _ (space : List (List (List ℕ))) (pairs : List Pair) (dim last : ℕ) w
         by k (inr a) b p m d o =
             let same : k ≡ head = omega (arith, a, b) in
             let at : In (get_or found head 0) (others space p) = subst (λ (z : ℕ). In z (others space p)) (ap (λ (j : ℕ). get_or new j 0) same ∙ h.begins head l) o in
-            let i = incident-true space p (incident p (In-Contains m)) in
+            let i = incident-true space p (incident p m) in
             let facet_of : In (get_or found head 0) (facets_of space (p.dim + 1) p.upper) = In-inside (λ f. not (eqb f p.lower)) (facets_of space (p.dim + 1) p.upper) at in
             let differs : p.lower ≢ get_or found head 0 = λ e. eqb-false (get_or found head 0) p.lower (not-true (eqb (get_or found head 0) p.lower) (filter-In (λ f. not (eqb f p.lower)) (facets_of space (p.dim + 1) p.upper) at)) (sym e) in
             let coface : In p.upper (cofaces_of space dim (get_or found head 0)) = subst (λ (z : ℕ). In p.upper (cofaces_of space z (get_or found head 0))) d (In-cofaces space p.dim (get_or found head 0) p.upper i.upper_first i.upper_last facet_of) in
-            h.added p.lower (record { upper = p.upper; coface = In-holds coface; paired = In-Contains (subst (λ (z : ℕ). In (pair z p.lower p.upper) pairs) d m); other = differs })
+            h.added p.lower (record { upper = p.upper; coface = In-holds coface; paired = subst (λ (z : ℕ). In (pair z p.lower p.upper) pairs) d m; other = differs })
 
     found_all : (head : ℕ) (found : List ℕ) → length found ≤ head → IsSearch head found → {f : ℕ} → Leads space pairs dim last f → holds found f ≡ true
     found_all head found l s arrived = s.start
     found_all head found l s (along p i d o h) =
-        let c = In-Contains (holds-In found (found_all head found l s h)) in
-        s.closed c.0 (omega (arith, c.1)) c.1 p (Contains-In i) d (subst (λ (z : ℕ). In z (others space p)) (sym (get_or_default found c.0 0 _ c.1 ∙ c.2)) (Contains-In o))
+        let c = In-at (holds-In found (found_all head found l s h)) in
+        s.closed c.0 (omega (arith, c.1)) c.1 p i d (subst (λ (z : ℕ). In z (others space p)) (sym c.2) o)
 
     pub search_tells : (head : ℕ) (found : List ℕ) → length found ≤ head → IsSearch head found → IsLed space pairs dim last found
     search_tells head found l s f =

@@ -1,19 +1,18 @@
-pub mod Members
-pub mod Lined
-pub mod Valid
-pub mod Paths
-pub mod MaximalTest
-pub mod Earlier
-pub mod Noted
-pub mod Marked
-pub mod Places
-pub mod InRange
-pub mod Unpaired
-pub mod Led
-pub mod CofaceAt
-pub mod Fields
-pub mod Only
-pub mod Making
-pub mod Inserted
-pub mod Settled
-pub mod Examples
+pub mod CallerLemmas
+mod Lined
+mod Valid
+mod Paths
+mod MaximalTest
+mod Earlier
+mod Noted
+mod Places
+mod InRange
+mod Unpaired
+mod Led
+mod CofaceAt
+mod Fields
+mod Only
+mod Making
+mod Inserted
+mod Settled
+mod Examples

@@ -1,7 +1,8 @@
 -- Lists in which each member stands in a relation to each later one.
 use Rattle.std.proofs.Common.{◌≡◌, ◌⊎◌, inl, inr, List, [], ◌∷◌, ◌++◌, Bool, true, false, cond, filter, reverse, refl, sym, subst}
 use Rattle.std.proofs.lemmas.List.{reverse-append}
-use Rattle.vector_field.proofs.Members.{In, here, there, In-cases, In-inside, append-In, reverse-In}
+use Rattle.number_lists.specs.Members.{In, here, there}
+use Rattle.number_lists.proofs.CallerLemmas.{In-cases, In-inside, append-In, reverse-In}
 
 abbrev pub Lined : {A : Type 0} → (A → A → Type 0) → List A → Type 0
 Lined R [] = Unit {0}

@@ -6,7 +6,8 @@ use Rattle.face_poset.specs.declared.cells.Pair.{Pair}
 use Rattle.face_poset.specs.Poset.{count, facets_of, cofaces_of}
 use Rattle.vector_field.specs.Pairs.{pair, is_used, is_incident, IsValid}
 use Rattle.vector_field.specs.Stages.{is_left, IsOnly}
-use Rattle.vector_field.proofs.Members.{In, there, In-inside, In-holds, holds-In, In-left, push-In, append-In, reverse-In, at-In}
+use Rattle.number_lists.specs.Members.{In, there}
+use Rattle.number_lists.proofs.CallerLemmas.{In-inside, In-holds, holds-In, In-left, push-In, append-In, reverse-In, at-In}
 use Rattle.vector_field.proofs.Lined.{Lined, lined-push, lined-append, lined-reverse}
 use Rattle.vector_field.proofs.Valid.{Uses, Apart, Goes, IsLined, valid-from, lined-from, unused-In}
 use Rattle.vector_field.proofs.MaximalTest.{incident-from, incident-coface, cofaces-In, In-cofaces, Coface}

@@ -1,15 +1,15 @@
 -- The computed test for maximal fields is exact.
-use Rattle.std.proofs.Common.{◌≡◌, inl, inr, ℕ, zero, suc, ◌+◌, ◌<◌, ◌≤◌, List, true, false, ◌&&◌, not, ltb, leb, subst, arith}
+use Rattle.std.proofs.Common.{◌≡◌, inl, inr, ℕ, zero, suc, ◌+◌, ◌<◌, ◌≤◌, List, true, false, ◌&&◌, not, ltb, leb, arith}
 use Rattle.std.specs.List.{list_all}
 use Rattle.std.proofs.lemmas.Bool.{and_parts, and_from, or_cases, or_left, or_right, not-true, not_from_false, ltb-true, lt-ltb, leb-true, le-leb, cases_Bool, both_ways}
 use Rattle.face_poset.specs.declared.cells.Pair.{Pair}
-use Rattle.face_poset.specs.Words.{upto, holds}
+use Rattle.number_lists.specs.Words.{upto, holds}
 use Rattle.face_poset.specs.Poset.{count, facets_of, cofaces_of}
-use Rattle.number_lists.proofs.CallerLemmas.{holds-upto, All-upto}
+use Rattle.number_lists.proofs.CallerLemmas.{In-filter, filter-In, In-inside, all-In, In-all, holds-In, In-holds, In-upto, upto-In}
 use Rattle.vector_field.specs.Pairs.{pair, is_used, is_incident, unpaired}
 use Rattle.vector_field.specs.Paths.{GradientPath, has_path}
 use Rattle.vector_field.specs.Maximal.{IsMaximal, is_settled, is_maximal_at, is_maximal, MaximalIsExact}
-use Rattle.vector_field.proofs.Members.{In, In-filter, filter-In, In-inside, all-In, In-all, holds-In, In-holds, In-Contains}
+use Rattle.number_lists.specs.Members.{In}
 use Rattle.vector_field.proofs.Paths.{path_is_exact}
 
 -- what it is to be incident
@@ -46,13 +46,6 @@ module _ (space : List (List (List ℕ))) where
       (and_from (leb 1 p.upper) _ (le-leb 1 p.upper h.upper_first)
       (and_from (leb p.upper (count space (p.dim + 1))) _ (le-leb p.upper (count space (p.dim + 1)) h.upper_last) (In-holds h.facet)))))
 
-  -- the numbers from 1 on
-  pub In-upto : (most n : ℕ) → 1 ≤ n → n ≤ most → In n (upto most)
-  In-upto most n a b = holds-In (upto most) (holds-upto most n a b)
-
-  pub upto-In : (most n : ℕ) → In n (upto most) → (1 ≤ n) × (n ≤ most)
-  upto-In most n m = let c = In-Contains m in subst (λ (z : ℕ). (1 ≤ z) × (z ≤ most)) c.2 (All-upto most c.0 n c.1)
-
   -- the cofaces of a cell are the cells with it as a facet
   pub In-cofaces : (dim cell n : ℕ) → 1 ≤ n → n ≤ count space (dim + 1) → In cell (facets_of space (dim + 1) n) → In n (cofaces_of space dim cell)
   In-cofaces dim cell n a b m = In-filter (λ k. holds (facets_of space (dim + 1) k) cell) (In-upto (count space (dim + 1)) n a b) (In-holds m)
@@ -80,7 +73,7 @@ module _ (space : List (List (List ℕ))) (pairs : List Pair) where
 
   at-true : (dim : ℕ) → is_maximal_at space pairs dim ≡ true → (lower upper : ℕ) → Incident space (pair dim lower upper) → is_used pairs dim lower ≡ false → is_used pairs (dim + 1) upper ≡ false → GradientPath space pairs dim upper lower
   at-true dim e lower upper i a b =
-      let m : In lower (unpaired pairs dim (count space dim)) = In-filter (λ n. not (is_used pairs dim n)) (In-upto space (count space dim) lower i.first i.last) (not_from_false (is_used pairs dim lower) a) in
+      let m : In lower (unpaired pairs dim (count space dim)) = In-filter (λ n. not (is_used pairs dim n)) (In-upto (count space dim) lower i.first i.last) (not_from_false (is_used pairs dim lower) a) in
       settled dim lower upper (all-In (is_settled space pairs dim lower) (all-In (λ l. list_all (is_settled space pairs dim l) (cofaces_of space dim l)) e m) (In-cofaces space dim lower upper i.upper_first i.upper_last i.facet)) b
 
   at-from : (dim : ℕ) → dim < 3 → IsMaximal space pairs → is_maximal_at space pairs dim ≡ true
@@ -88,7 +81,7 @@ module _ (space : List (List (List ℕ))) (pairs : List Pair) where
       In-all (λ a. list_all (is_settled space pairs dim a) (cofaces_of space dim a)) (unpaired pairs dim (count space dim))
       (λ a m. In-all (is_settled space pairs dim a) (cofaces_of space dim a)
       (λ b n.
-      let u = upto-In space (count space dim) a (In-inside (λ k. not (is_used pairs dim k)) (upto (count space dim)) m) in
+      let u = upto-In (count space dim) a (In-inside (λ k. not (is_used pairs dim k)) (upto (count space dim)) m) in
       let free : is_used pairs dim a ≡ false = not-true (is_used pairs dim a) (filter-In (λ k. not (is_used pairs dim k)) (upto (count space dim)) m) in
       elim (cases_Bool (is_used pairs (dim + 1) b)) [
         | inl k ↦ or_left (is_used pairs (dim + 1) b) (has_path space pairs dim b a) k

@@ -1,5 +1,5 @@
 -- Notes of partners.
-use Rattle.std.proofs.Common.{◌≡◌, ◌⊎◌, inl, inr, ℕ, zero, suc, ◌+◌, ◌-◌, ◌≤◌, List, [], ◌∷◌, Bool, true, false, cond, ◌||◌, ◌&&◌, eqb, length, get_or, Option, Some, None, refl, ap, sym, ◌∙◌, subst, arith, Contains, MatchOption}
+use Rattle.std.proofs.Common.{◌≡◌, ◌⊎◌, inl, inr, ℕ, zero, suc, ◌+◌, ◌-◌, ◌≤◌, List, [], ◌∷◌, Bool, true, false, cond, ◌||◌, ◌&&◌, eqb, length, get_or, Option, Some, None, refl, ap, sym, ◌∙◌, subst, arith, MatchOption}
 use Rattle.std.specs.Prelude.{is_some}
 use Rattle.std.specs.List.{list_any}
 use Rattle.std.proofs.lemmas.Bool.{eqb-true, eq-eqb, and_parts, and_from, cases_Bool, cases_eq, cases_lt}
@@ -9,7 +9,8 @@ use Rattle.face_poset.specs.declared.cells.Pair.{Pair}
 use Rattle.vector_field.specs.CellMaps.{at, row, IsPut}
 use Rattle.vector_field.specs.Pairs.{pair, is_used}
 use Rattle.vector_field.specs.Pairings.{has_upper, lengths, IsNoted}
-use Rattle.vector_field.proofs.Members.{In, any-none, In-Contains, Contains-In}
+use Rattle.number_lists.specs.Members.{In}
+use Rattle.number_lists.proofs.CallerLemmas.{any-none}
 use Rattle.vector_field.proofs.Valid.{Uses, used-In, unused-from}
 
 -- how many cells a row is for
@@ -55,28 +56,28 @@ module _ (ps : List Pair) (uppers lowers : List (List (Option ℕ))) (h : IsNote
   noted-more p qs ups los pl pu few kept only new eu el iu il = record {
     few = few;
     same = el ∙ (h.same ∙ sym eu);
-    first = λ q m. elim (only q (Contains-In m)) [ inl i ↦ h.first q (In-Contains i) | inr x ↦ subst (λ (r : Pair). (1 ≤ r.lower) × (1 ≤ r.upper)) (sym x) (pl, pu) ];
+    first = λ q m. elim (only q m) [ inl i ↦ h.first q i | inr x ↦ subst (λ (r : Pair). (1 ≤ r.lower) × (1 ≤ r.upper)) (sym x) (pl, pu) ];
     upper_in = λ d n u low e. elim (put-cases p.dim p.lower d n) [
-      | inl w ↦ In-Contains (let same : u ≡ p.upper = same_Some u p.upper (sym e ∙ (put-at uppers p.dim p.lower p.upper ups d n low iu).same w.0 w.1) in
+      | inl w ↦ (let same : u ≡ p.upper = same_Some u p.upper (sym e ∙ (put-at uppers p.dim p.lower p.upper ups d n low iu).same w.0 w.1) in
           subst (λ (q : Pair). In q qs) (same_pair p d n u w.0 w.1 (sym same)) new)
-      | inr k ↦ In-Contains (kept (pair d n u) (Contains-In (h.upper_in d n u low (sym ((put-at uppers p.dim p.lower p.upper ups d n low iu).kept k) ∙ e))))
+      | inr k ↦ kept (pair d n u) (h.upper_in d n u low (sym ((put-at uppers p.dim p.lower p.upper ups d n low iu).kept k) ∙ e))
     ];
-    upper_all = λ q m e. elim (only q (Contains-In m)) [
+    upper_all = λ q m e. elim (only q m) [
       | inl i ↦ elim (put-cases p.dim p.lower q.dim q.lower) [
         | inl w ↦ none-some p.upper (sym e ∙ (put-at uppers p.dim p.lower p.upper ups q.dim q.lower (low-of w.1 pl) iu).same w.0 w.1)
-        | inr k ↦ h.upper_all q (In-Contains i) (sym ((put-at uppers p.dim p.lower p.upper ups q.dim q.lower ((h.first q (In-Contains i)).0) iu).kept k) ∙ e)
+        | inr k ↦ h.upper_all q i (sym ((put-at uppers p.dim p.lower p.upper ups q.dim q.lower ((h.first q i).0) iu).kept k) ∙ e)
       ]
       | inr x ↦ none-some p.upper (sym (subst (λ (r : Pair). at ups r.dim r.lower ≡ None) x e) ∙ (put-at uppers p.dim p.lower p.upper ups p.dim p.lower pl iu).same refl refl)
     ];
     lower_in = λ d n l low e. elim (put-cases (p.dim + 1) p.upper (d + 1) n) [
-      | inl w ↦ In-Contains (let same : l ≡ p.lower = same_Some l p.lower (sym e ∙ (put-at lowers (p.dim + 1) p.upper p.lower los (d + 1) n low il).same w.0 w.1) in
+      | inl w ↦ (let same : l ≡ p.lower = same_Some l p.lower (sym e ∙ (put-at lowers (p.dim + 1) p.upper p.lower los (d + 1) n low il).same w.0 w.1) in
           subst (λ (q : Pair). In q qs) (same_pair p d l n (omega (arith, w.0)) (sym same) w.1) new)
-      | inr k ↦ In-Contains (kept (pair d l n) (Contains-In (h.lower_in d n l low (sym ((put-at lowers (p.dim + 1) p.upper p.lower los (d + 1) n low il).kept k) ∙ e))))
+      | inr k ↦ kept (pair d l n) (h.lower_in d n l low (sym ((put-at lowers (p.dim + 1) p.upper p.lower los (d + 1) n low il).kept k) ∙ e))
     ];
-    lower_all = λ q m e. elim (only q (Contains-In m)) [
+    lower_all = λ q m e. elim (only q m) [
       | inl i ↦ elim (put-cases (p.dim + 1) p.upper (q.dim + 1) q.upper) [
         | inl w ↦ none-some p.lower (sym e ∙ (put-at lowers (p.dim + 1) p.upper p.lower los (q.dim + 1) q.upper (low-of w.1 pu) il).same w.0 w.1)
-        | inr k ↦ h.lower_all q (In-Contains i) (sym ((put-at lowers (p.dim + 1) p.upper p.lower los (q.dim + 1) q.upper ((h.first q (In-Contains i)).1) il).kept k) ∙ e)
+        | inr k ↦ h.lower_all q i (sym ((put-at lowers (p.dim + 1) p.upper p.lower los (q.dim + 1) q.upper ((h.first q i).1) il).kept k) ∙ e)
       ]
       | inr x ↦ none-some p.lower (sym (subst (λ (r : Pair). at los (r.dim + 1) r.upper ≡ None) x e) ∙ (put-at lowers (p.dim + 1) p.upper p.lower los (p.dim + 1) p.upper pu il).same refl refl)
     ];
@@ -94,25 +95,25 @@ module _ (ps : List Pair) (uppers lowers : List (List (Option ℕ))) (h : IsNote
   noted-same qs few kept only = record {
     few = few;
     same = h.same;
-    first = λ q m. h.first q (In-Contains (only q (Contains-In m)));
-    upper_in = λ d n u low e. In-Contains (kept (pair d n u) (Contains-In (h.upper_in d n u low e)));
-    upper_all = λ q m. h.upper_all q (In-Contains (only q (Contains-In m)));
-    lower_in = λ d n l low e. In-Contains (kept (pair d l n) (Contains-In (h.lower_in d n l low e)));
-    lower_all = λ q m. h.lower_all q (In-Contains (only q (Contains-In m)));
+    first = λ q m. h.first q (only q m);
+    upper_in = λ d n u low e. kept (pair d n u) (h.upper_in d n u low e);
+    upper_all = λ q m. h.upper_all q (only q m);
+    lower_in = λ d n l low e. kept (pair d l n) (h.lower_in d n l low e);
+    lower_all = λ q m. h.lower_all q (only q m);
     bottom = h.bottom;
   }
 
 module _ (ps : List Pair) (uppers lowers : List (List (Option ℕ))) (h : IsNoted ps uppers lowers) where
   -- what the notes tell of the pairs
   pub no_lower : (dim cell : ℕ) → at lowers (dim + 1) cell ≡ None → list_any (has_upper dim cell) ps ≡ false
-  no_lower dim cell e = any-none (has_upper dim cell) ps (λ p m k. let l = has_upper-true p dim cell k in h.lower_all p (In-Contains m) (ap (λ (d : ℕ). at lowers (d + 1) p.upper) l.0 ∙ (ap (λ (n : ℕ). at lowers (dim + 1) n) l.1 ∙ e)))
+  no_lower dim cell e = any-none (has_upper dim cell) ps (λ p m k. let l = has_upper-true p dim cell k in h.lower_all p m (ap (λ (d : ℕ). at lowers (d + 1) p.upper) l.0 ∙ (ap (λ (n : ℕ). at lowers (dim + 1) n) l.1 ∙ e)))
 
-  pub lower_tells : (dim cell : ℕ) (o : Option ℕ) → 1 ≤ cell → o ≡ at lowers (dim + 1) cell → MatchOption o (list_any (has_upper dim cell) ps ≡ false) (λ lower. Contains ps (pair dim lower cell))
+  pub lower_tells : (dim cell : ℕ) (o : Option ℕ) → 1 ≤ cell → o ≡ at lowers (dim + 1) cell → MatchOption o (list_any (has_upper dim cell) ps ≡ false) (λ lower. In (pair dim lower cell) ps)
   lower_tells dim cell None low e = no_lower dim cell (sym e)
   lower_tells dim cell (Some l) low e = h.lower_in dim cell l low (sym e)
 
   -- a note of a lower stands above the bottom
-  pub lower_above : (dim cell lower : ℕ) → 1 ≤ cell → at lowers dim cell ≡ Some lower → (below : ℕ) × (dim ≡ below + 1) × Contains ps (pair below lower cell)
+  pub lower_above : (dim cell lower : ℕ) → 1 ≤ cell → at lowers dim cell ≡ Some lower → (below : ℕ) × (dim ≡ below + 1) × In (pair below lower cell) ps
   lower_above zero cell lower low e = absurd (none-some lower (sym (h.bottom cell low) ∙ e))
   lower_above (suc dim) cell lower low e = let s : suc dim ≡ dim + 1 = omega arith in (dim, s, h.lower_in dim cell lower low (ap (λ (d : ℕ). at lowers d cell) (sym s) ∙ e))
 
@@ -120,12 +121,12 @@ module _ (ps : List Pair) (uppers lowers : List (List (Option ℕ))) (h : IsNote
   unused dim cell a b = unused-from ps dim cell by
     where
       by : (p : Pair) → In p ps → Uses p dim cell → ⊥
-      by p m (inl u) = h.upper_all p (In-Contains m) (ap (λ (d : ℕ). at uppers d p.lower) u.0 ∙ (ap (λ (n : ℕ). at uppers dim n) u.1 ∙ a))
-      by p m (inr u) = h.lower_all p (In-Contains m) (ap (λ (d : ℕ). at lowers d p.upper) u.0 ∙ (ap (λ (n : ℕ). at lowers dim n) u.1 ∙ b))
+      by p m (inl u) = h.upper_all p m (ap (λ (d : ℕ). at uppers d p.lower) u.0 ∙ (ap (λ (n : ℕ). at uppers dim n) u.1 ∙ a))
+      by p m (inr u) = h.lower_all p m (ap (λ (d : ℕ). at lowers d p.upper) u.0 ∙ (ap (λ (n : ℕ). at lowers dim n) u.1 ∙ b))
 
   pub is_used_by : (dim cell : ℕ) (o q : Option ℕ) → 1 ≤ cell → at uppers dim cell ≡ o → at lowers dim cell ≡ q → is_used ps dim cell ≡ (is_some o || is_some q)
-  is_used_by dim cell (Some u) q low a b = used-In dim cell (Contains-In (h.upper_in dim cell u low a)) (inl (refl, refl))
-  is_used_by dim cell None (Some l) low a b = let w = lower_above dim cell l low b in used-In dim cell (Contains-In w.2) (inr (sym w.1, refl))
+  is_used_by dim cell (Some u) q low a b = used-In dim cell (h.upper_in dim cell u low a) (inl (refl, refl))
+  is_used_by dim cell None (Some l) low a b = let w = lower_above dim cell l low b in used-In dim cell w.2 (inr (sym w.1, refl))
   is_used_by dim cell None None low a b = unused dim cell a b
 
   -- a cell that is not there is in no pair
@@ -140,8 +141,8 @@ module _ (ps : List Pair) (uppers lowers : List (List (Option ℕ))) (h : IsNote
 
       by : (p : Pair) → In p ps → Uses p dim cell → ⊥
       by p m (inl u) =
-          let l : 1 ≤ cell = omega (arith, (h.first p (In-Contains m)).0, u.1) in
-          h.upper_all p (In-Contains m) (ap (λ (d : ℕ). at uppers d p.lower) u.0 ∙ (ap (λ (n : ℕ). at uppers dim n) u.1 ∙ nothing uppers refl l))
+          let l : 1 ≤ cell = omega (arith, (h.first p m).0, u.1) in
+          h.upper_all p m (ap (λ (d : ℕ). at uppers d p.lower) u.0 ∙ (ap (λ (n : ℕ). at uppers dim n) u.1 ∙ nothing uppers refl l))
       by p m (inr u) =
-          let l : 1 ≤ cell = omega (arith, (h.first p (In-Contains m)).1, u.1) in
-          h.lower_all p (In-Contains m) (ap (λ (d : ℕ). at lowers d p.upper) u.0 ∙ (ap (λ (n : ℕ). at lowers dim n) u.1 ∙ nothing lowers same l))
+          let l : 1 ≤ cell = omega (arith, (h.first p m).1, u.1) in
+          h.lower_all p m (ap (λ (d : ℕ). at lowers d p.upper) u.0 ∙ (ap (λ (n : ℕ). at lowers dim n) u.1 ∙ nothing lowers same l))

@@ -1,6 +1,6 @@
 -- The one of some cells that is left.
 use Rattle.std.proofs.Common.{◌≡◌, ℕ, List, Bool, true, false, Option, MatchOption}
-use Rattle.face_poset.specs.Words.{holds}
+use Rattle.number_lists.specs.Words.{holds}
 use Rattle.vector_field.specs.Stages.{is_left, IsOnly}
 
 -- none of these cells is left, or one alone

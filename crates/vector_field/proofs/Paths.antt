@@ -2,13 +2,13 @@
 use Rattle.std.proofs.Common.{◌≡◌, ◌≢◌, ℕ, ◌+◌, List, ◌∷◌, Bool, true, ◌&&◌, not, eqb, refl, subst}
 use Rattle.std.proofs.lemmas.Bool.{eqb-false, eq-eqb, ne_eqb, and_parts, and_from, or_right, not-true, not_from_false}
 use Rattle.face_poset.specs.declared.cells.Pair.{Pair}
-use Rattle.face_poset.specs.Words.{holds}
+use Rattle.number_lists.specs.Words.{holds}
 use Rattle.face_poset.specs.Poset.{facets_of}
 use Rattle.number_lists.specs.Reach.{Reaches, at_start, on}
-use Rattle.number_lists.proofs.CallerLemmas.{reaches_is}
+use Rattle.number_lists.proofs.CallerLemmas.{reaches_is, In-filter, In-map, any-In, any-some, holds-In, In-holds}
 use Rattle.vector_field.specs.Pairs.{has_lower, others}
 use Rattle.vector_field.specs.Paths.{Leads, arrived, along, GradientPath, leads_step, lowers_of, leads_to, PathIsExact}
-use Rattle.vector_field.proofs.Members.{In, here, In-filter, In-map, any-In, any-some, holds-In, In-holds, In-Contains, Contains-In}
+use Rattle.number_lists.specs.Members.{In, here}
 use Rattle.vector_field.proofs.Valid.{has_lower-true, has_lower-from}
 
 module _ (space : List (List (List ℕ))) (pairs : List Pair) (dim last : ℕ) where
@@ -21,14 +21,14 @@ module _ (space : List (List (List ℕ))) (pairs : List Pair) (dim last : ℕ) w
       let r = any-some (λ (p : Pair). has_lower dim z p && holds (others space p) y) pairs s in
       let b = and_parts (has_lower dim z r.0) (holds (others space r.0) y) r.2 in
       let l = has_lower-true r.0 dim z b.0 in
-      subst (Leads space pairs dim last) l.1 (along r.0 (In-Contains r.1) l.0 (In-Contains (holds-In (others space r.0) b.1)) (to_leads h))
+      subst (Leads space pairs dim last) l.1 (along r.0 r.1 l.0 (holds-In (others space r.0) b.1) (to_leads h))
 
   from_leads : {f : ℕ} → Leads space pairs dim last f → Reaches (leads_step space pairs dim) (last ∷ lowers_of pairs dim) last f
   from_leads arrived = at_start
   from_leads (along {next = g} p i d o h) =
       on (from_leads h)
-      (any-In (λ (q : Pair). has_lower dim p.lower q && holds (others space q) g) (Contains-In i) (and_from (has_lower dim p.lower p) (holds (others space p) g) (has_lower-from p dim p.lower d refl) (In-holds (Contains-In o))))
-      (or_right (eqb last p.lower) (holds (lowers_of pairs dim) p.lower) (In-holds (In-map (λ (q : Pair). q.lower) (In-filter (λ (q : Pair). eqb q.dim dim) (Contains-In i) (eq-eqb p.dim dim d)))))
+      (any-In (λ (q : Pair). has_lower dim p.lower q && holds (others space q) g) i (and_from (has_lower dim p.lower p) (holds (others space p) g) (has_lower-from p dim p.lower d refl) (In-holds o)))
+      (or_right (eqb last p.lower) (holds (lowers_of pairs dim) p.lower) (In-holds (In-map (λ (q : Pair). q.lower) (In-filter (λ (q : Pair). eqb q.dim dim) i (eq-eqb p.dim dim d)))))
 
   last_in : holds (last ∷ lowers_of pairs dim) last ≡ true
   last_in = In-holds {x = last} {xs = last ∷ lowers_of pairs dim} here
@@ -42,7 +42,7 @@ module _ (space : List (List (List ℕ))) (pairs : List Pair) (dim last : ℕ) w
 -- more pairs lead further
 pub leads-more : {space : List (List (List ℕ))} {ps qs : List Pair} {dim last f : ℕ} → ((p : Pair) → In p ps → In p qs) → Leads space ps dim last f → Leads space qs dim last f
 leads-more k arrived = arrived
-leads-more k (along p i d o h) = along p (In-Contains (k p (Contains-In i))) d o (leads-more k h)
+leads-more k (along p i d o h) = along p (k p i) d o (leads-more k h)
 
 -- a facet of the upper that is not the lower is another one
 pub other-In : (space : List (List (List ℕ))) (p : Pair) (f : ℕ) → In f (facets_of space (p.dim + 1) p.upper) → f ≢ p.lower → In f (others space p)
@@ -56,8 +56,8 @@ path_is_exact space pairs dim upper lower = (
   λ e.
       let s = any-some (λ f. not (eqb f lower) && leads_to space pairs dim lower f) (facets_of space (dim + 1) upper) e in
       let b = path-parts true (leads_to space pairs dim lower s.0) s.0 lower s.2 in
-      record { first = s.0; facet = In-Contains s.1; other = b.0; leads = leads-sound space pairs dim lower s.0 b.1 },
-  λ h. any-In (λ f. not (eqb f lower) && leads_to space pairs dim lower f) (Contains-In h.facet)
+      record { first = s.0; facet = s.1; other = b.0; leads = leads-sound space pairs dim lower s.0 b.1 },
+  λ h. any-In (λ f. not (eqb f lower) && leads_to space pairs dim lower f) h.facet
       (and_from (not (eqb h.first lower)) (leads_to space pairs dim lower h.first) (not_from_false (eqb h.first lower) (ne_eqb h.first lower h.other)) (leads-complete space pairs dim lower h.first h.leads)),
 )
 

@@ -9,7 +9,7 @@ use Rattle.vector_field.specs.CellMaps.{at, row, IsPut}
 use Rattle.vector_field.specs.Pairs.{pair, has_lower, counts_of}
 use Rattle.vector_field.specs.Pairings.{lengths}
 use Rattle.vector_field.specs.LastPlaces.{pair_at, IsLastPlace, AreLast}
-use Rattle.vector_field.proofs.Members.{In-Contains, at-In, any-In, any-none}
+use Rattle.number_lists.proofs.CallerLemmas.{at-In, any-In, any-none, In-Contains}
 use Rattle.vector_field.proofs.Valid.{has_lower-true, has_lower-from}
 use Rattle.vector_field.proofs.Noted.{put-at, put-cases, length-row}
 

@@ -1,5 +1,5 @@
 -- What is settled stays settled when pairs are added.
-use Rattle.std.proofs.Common.{◌≡◌, inl, inr, ℕ, zero, suc, ◌+◌, List, true, false, ◌||◌, subst, arith, Contains}
+use Rattle.std.proofs.Common.{◌≡◌, inl, inr, ℕ, zero, suc, ◌+◌, List, true, false, ◌||◌, subst, arith}
 use Rattle.std.specs.List.{list_all}
 use Rattle.std.proofs.lemmas.Bool.{or_cases, or_left, or_right, both_ways, cases_lt}
 use Rattle.face_poset.specs.declared.cells.Pair.{Pair}
@@ -9,7 +9,8 @@ use Rattle.vector_field.specs.Pairings.{HasCells, IsPairing}
 use Rattle.vector_field.specs.Paths.{GradientPath, has_path}
 use Rattle.vector_field.specs.Maximal.{IsMaximal, is_settled}
 use Rattle.vector_field.specs.Stages.{IsAbove, Keeps, AreSettled}
-use Rattle.vector_field.proofs.Members.{In, In-all, all-In, In-Contains, Contains-In}
+use Rattle.number_lists.specs.Members.{In}
+use Rattle.number_lists.proofs.CallerLemmas.{In-all, all-In}
 use Rattle.vector_field.proofs.Valid.{lined-from, used-more}
 use Rattle.vector_field.proofs.Paths.{path_is_exact, path-more}
 use Rattle.vector_field.proofs.MaximalTest.{Incident, incident-true, In-cofaces}
@@ -18,7 +19,7 @@ use Rattle.vector_field.proofs.Fields.{pairing-from}
 
 module _ (space : List (List (List ℕ))) (ps qs : List Pair) (keeps : Keeps ps qs) where
   kept : (p : Pair) → In p ps → In p qs
-  kept p m = Contains-In (keeps p (In-Contains m))
+  kept p m = keeps p m
 
   settled-more : (dim lower upper : ℕ) → is_settled space ps dim lower upper ≡ true → is_settled space qs dim lower upper ≡ true
   settled-more dim lower upper e = elim (or_cases (is_used ps (dim + 1) upper) (has_path space ps dim upper lower) e) [
@@ -69,8 +70,8 @@ field-of space dim field h = record { counts = h.counts; valid = h.valid }
 pub pairing-of : (space : List (List (List ℕ))) (dim : ℕ) (field : Field) → IsAbove space dim field → IsPairing space field
 pairing-of space dim field h = pairing-from space field (field-of space dim field h)
 
-pub incident-of : (space : List (List (List ℕ))) (dim : ℕ) (field : Field) → IsAbove space dim field → (p : Pair) → Contains field.pairs p → Incident space p
-incident-of space dim field h p m = incident-true space p ((lined-from space field.pairs h.valid).incident p (Contains-In m))
+pub incident-of : (space : List (List (List ℕ))) (dim : ℕ) (field : Field) → IsAbove space dim field → (p : Pair) → In p field.pairs → Incident space p
+incident-of space dim field h p m = incident-true space p ((lined-from space field.pairs h.valid).incident p m)
 
 -- the cells of an incident pair are there
 pub has_cells : (space : List (List (List ℕ))) (field : Field) (dim : ℕ) (p : Pair) → IsAbove space dim field → Incident space p → HasCells field.counts p

@@ -5,7 +5,7 @@ use Rattle.std.specs.List.Sorted.{IsStrictlyIncreasing}
 use Rattle.std.proofs.lemmas.List.Elements.{filter-append}
 use Rattle.std.proofs.lemmas.List.Kept.{IsStrictlyIncreasing-filter}
 use Rattle.face_poset.specs.declared.cells.Pair.{Pair}
-use Rattle.face_poset.specs.Words.{upto}
+use Rattle.number_lists.specs.Words.{upto}
 use Rattle.number_lists.proofs.CallerLemmas.{upto_more, increasing-upto}
 use Rattle.vector_field.specs.Pairs.{is_used, unpaired, Field, critical_of}
 

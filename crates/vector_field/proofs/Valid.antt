@@ -5,7 +5,8 @@ use Rattle.std.proofs.lemmas.Bool.{eqb-true, eq-eqb, and_parts, and_from, or_cas
 use Rattle.std.proofs.lemmas.Option.{none-some}
 use Rattle.face_poset.specs.declared.cells.Pair.{Pair}
 use Rattle.vector_field.specs.Pairs.{has_lower, uses, is_used, is_incident, others, comes_before, fits, bad_from, IsValid}
-use Rattle.vector_field.proofs.Members.{In, here, there, In-cases, any-In, any-some, any-none, none-In, all-In, In-all, push-In, In-left, In-last}
+use Rattle.number_lists.specs.Members.{In, here, there}
+use Rattle.number_lists.proofs.CallerLemmas.{In-cases, any-In, any-some, any-none, none-In, all-In, In-all, push-In, In-left, In-last}
 use Rattle.vector_field.proofs.Lined.{Lined}
 
 -- the cell is one of the two of the pair

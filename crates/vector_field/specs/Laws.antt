@@ -4,7 +4,8 @@
 --   ValidClosesNone            the pairs of a valid field close no path
 --   SubstitutionEnds           along a valid field substitution ends: what holds of each facet that is no lower, and of the lower of each
 --                              pair of which it holds of the other facets of the upper, holds of all lowers
-use Rattle.std.specs.Prelude.{◌≡◌, ℕ, ◌+◌, List, Bool, true, false, Contains}
+use Rattle.std.specs.Prelude.{◌≡◌, ℕ, ◌+◌, List, Bool, true, false}
+use Rattle.number_lists.specs.Members.{In}
 use Rattle.face_poset.specs.declared.cells.Pair.{Pair}
 use Rattle.vector_field.specs.Pairs.{has_lower, is_used, is_incident, others, IsValid}
 use Rattle.vector_field.specs.Paths.{Leads}
@@ -13,7 +14,7 @@ use Rattle.std.specs.List.{list_any}
 
 pub record IsClosed (space : List (List (List ℕ))) (pairs : List Pair) (p : Pair) : Type 0 where
   pub first : ℕ
-  pub other : Contains (others space p) first
+  pub other : In first (others space p)
   pub leads : Leads space pairs p.dim p.lower first
 
 abbrev pub AddedPairCloses : Type 0
@@ -26,12 +27,12 @@ AddedPairCloses =
     → IsClosed space pairs p
 
 abbrev pub ValidClosesNone : Type 0
-ValidClosesNone = (space : List (List (List ℕ))) (pairs : List Pair) (p : Pair) → IsValid space pairs → Contains pairs p → IsClosed space pairs p → ⊥
+ValidClosesNone = (space : List (List (List ℕ))) (pairs : List Pair) (p : Pair) → IsValid space pairs → In p pairs → IsClosed space pairs p → ⊥
 
 abbrev pub SubstitutionEnds : Type 0
 SubstitutionEnds =
     (space : List (List (List ℕ))) (pairs : List Pair) (dim : ℕ) (known : ℕ → Bool)
     → IsValid space pairs
-    → ((p : Pair) (f : ℕ) → Contains pairs p → p.dim ≡ dim → Contains (others space p) f → list_any (has_lower dim f) pairs ≡ false → known f ≡ true)
-    → ((p : Pair) → Contains pairs p → p.dim ≡ dim → ((f : ℕ) → Contains (others space p) f → known f ≡ true) → known p.lower ≡ true)
-    → (p : Pair) → Contains pairs p → p.dim ≡ dim → known p.lower ≡ true
+    → ((p : Pair) (f : ℕ) → In p pairs → p.dim ≡ dim → In f (others space p) → list_any (has_lower dim f) pairs ≡ false → known f ≡ true)
+    → ((p : Pair) → In p pairs → p.dim ≡ dim → ((f : ℕ) → In f (others space p) → known f ≡ true) → known p.lower ≡ true)
+    → (p : Pair) → In p pairs → p.dim ≡ dim → known p.lower ≡ true

@@ -1,10 +1,16 @@
+-- What the contracts mean: Pairs, Paths, Maximal and Laws.
+-- What the code keeps for itself: CellMaps, Pairings, LastPlaces, Searches and Stages.
+-- Words of lower crates that these speak of stand at the end.
 pub mod Pairs
 pub mod Paths
 pub mod Maximal
 pub mod Laws
 pub mod CellMaps
 pub mod Pairings
-pub mod Founds
 pub mod LastPlaces
 pub mod Searches
 pub mod Stages
+pub use Rattle.face_poset.specs.Poset
+pub use Rattle.number_lists.specs.Words
+pub use Rattle.number_lists.specs.Members
+pub use Rattle.number_lists.specs.Reach

@@ -8,9 +8,10 @@
 --   is_late dim numbers p            whether the pair has this dimension and its lower is in the list
 --   inserted pairs p numbers         the pair is put after those that are not late and before those that are
 --   HasCells counts p                the cells of a pair are there
-use Rattle.std.specs.Prelude.{◌≡◌, ℕ, ◌+◌, ◌≤◌, ◌<◌, ◌&&◌, ◌==◌, List, ◌∷◌, ◌++◌, length, map, filter, not, Bool, slice_index, true, Contains, Option, Some, None}
+use Rattle.std.specs.Prelude.{◌≡◌, ℕ, ◌+◌, ◌≤◌, ◌<◌, ◌&&◌, ◌==◌, List, ◌∷◌, ◌++◌, length, map, filter, not, Bool, slice_index, true, Option, Some, None}
+use Rattle.number_lists.specs.Members.{In}
 use Rattle.face_poset.specs.declared.cells.Pair.{Pair}
-use Rattle.face_poset.specs.Words.{holds}
+use Rattle.number_lists.specs.Words.{holds}
 use Rattle.vector_field.specs.CellMaps.{at}
 use Rattle.vector_field.specs.Pairs.{pair, Field, counts_of, is_incident}
 
@@ -26,17 +27,17 @@ lengths cells = map (λ r. length r) cells
 pub record IsNoted (pairs : List Pair) (uppers lowers : List (List (Option ℕ))) : Type 0 where
   pub few : length pairs ≤ 4294967295
   pub same : lengths lowers ≡ lengths uppers
-  pub first : (p : Pair) → Contains pairs p → (1 ≤ p.lower) × (1 ≤ p.upper)
-  pub upper_in : (d n u : ℕ) → 1 ≤ n → at uppers d n ≡ Some u → Contains pairs (pair d n u)
-  pub upper_all : (p : Pair) → Contains pairs p → at uppers p.dim p.lower ≡ None → ⊥
-  pub lower_in : (d n l : ℕ) → 1 ≤ n → at lowers (d + 1) n ≡ Some l → Contains pairs (pair d l n)
-  pub lower_all : (p : Pair) → Contains pairs p → at lowers (p.dim + 1) p.upper ≡ None → ⊥
+  pub first : (p : Pair) → In p pairs → (1 ≤ p.lower) × (1 ≤ p.upper)
+  pub upper_in : (d n u : ℕ) → 1 ≤ n → at uppers d n ≡ Some u → In (pair d n u) pairs
+  pub upper_all : (p : Pair) → In p pairs → at uppers p.dim p.lower ≡ None → ⊥
+  pub lower_in : (d n l : ℕ) → 1 ≤ n → at lowers (d + 1) n ≡ Some l → In (pair d l n) pairs
+  pub lower_all : (p : Pair) → In p pairs → at lowers (p.dim + 1) p.upper ≡ None → ⊥
   pub bottom : (n : ℕ) → 1 ≤ n → at lowers 0 n ≡ None
 
 pub record IsPairing (space : List (List (List ℕ))) (field : Field) : Type 0 where
   pub counts : field.counts ≡ counts_of space
-  pub incident : (p : Pair) → Contains field.pairs p → is_incident space p ≡ true
-  pub one_lower : (p q : Pair) → Contains field.pairs p → Contains field.pairs q → p.dim ≡ q.dim → p.upper ≡ q.upper → p ≡ q
+  pub incident : (p : Pair) → In p field.pairs → is_incident space p ≡ true
+  pub one_lower : (p q : Pair) → In p field.pairs → In q field.pairs → p.dim ≡ q.dim → p.upper ≡ q.upper → p ≡ q
 
 abbrev pub is_late : (dim : ℕ) → (numbers : List ℕ) → Pair → Bool
 is_late dim numbers p = (p.dim == dim) && holds numbers p.lower

@@ -19,10 +19,11 @@
 --   unpaired pairs dim most          the cells from 1 to `most` that are in no pair
 --   critical_of field dim            the critical cells of a dimension: those in no pair
 --   IsPartner pairs dim cell how     what the pairs say of a cell
-use Rattle.std.specs.Prelude.{◌≡◌, ⊤, ℕ, suc, ◌+◌, ◌&&◌, ◌||◌, ◌==◌, List, [], ◌∷◌, ◌++◌, Bool, false, cond, not, nat_lt, nat_le, filter, map, slice_index, Contains, Option, Some, None}
+use Rattle.std.specs.Prelude.{◌≡◌, ⊤, ℕ, suc, ◌+◌, ◌&&◌, ◌||◌, ◌==◌, List, [], ◌∷◌, ◌++◌, Bool, false, cond, not, nat_lt, nat_le, filter, map, slice_index, Option, Some, None}
 use Rattle.std.specs.List.{list_all, list_any}
+use Rattle.number_lists.specs.Members.{In}
 use Rattle.face_poset.specs.declared.cells.Pair.{Pair}
-use Rattle.face_poset.specs.Words.{upto, holds}
+use Rattle.number_lists.specs.Words.{upto, holds}
 use Rattle.face_poset.specs.Poset.{count, facets_of}
 use Rattle.vector_field.specs.declared.fault.PairFault.{PairFault}
 use Rattle.vector_field.specs.declared.fault.PairFault.TheVariants.{Bad, Memory}
@@ -96,5 +97,5 @@ critical_of field dim = unpaired field.pairs dim (slice_index field.counts dim)
 
 abbrev pub IsPartner : List Pair → (dim cell : ℕ) → Partner → Type 0
 IsPartner pairs dim cell Critical = is_used pairs dim cell ≡ false
-IsPartner pairs dim cell (Upper upper) = Contains pairs (pair dim cell upper)
-IsPartner pairs dim cell (Lower lower) = (below : ℕ) × (dim ≡ below + 1) × Contains pairs (pair below lower cell)
+IsPartner pairs dim cell (Upper upper) = In (pair dim cell upper) pairs
+IsPartner pairs dim cell (Lower lower) = (below : ℕ) × (dim ≡ below + 1) × In (pair below lower cell) pairs

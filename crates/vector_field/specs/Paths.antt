@@ -9,21 +9,22 @@
 --   leads_to space pairs dim last f              whether the pairs lead from f to `last`: by steps backward from `last` among it and the lowers
 --   has_path space pairs dim upper lower         whether there is a gradient path
 --   PathIsExact                                  the test tells whether there is one
-use Rattle.std.specs.Prelude.{◌≡◌, ◌≢◌, ◌↔◌, ℕ, ◌+◌, ◌&&◌, ◌==◌, List, ◌∷◌, Bool, true, not, filter, map, Contains}
+use Rattle.std.specs.Prelude.{◌≡◌, ◌≢◌, ◌↔◌, ℕ, ◌+◌, ◌&&◌, ◌==◌, List, ◌∷◌, Bool, true, not, filter, map}
 use Rattle.std.specs.List.{list_any}
+use Rattle.number_lists.specs.Members.{In}
 use Rattle.face_poset.specs.declared.cells.Pair.{Pair}
-use Rattle.face_poset.specs.Words.{holds}
+use Rattle.number_lists.specs.Words.{holds}
 use Rattle.face_poset.specs.Poset.{facets_of}
 use Rattle.number_lists.specs.Reach.{reaches}
 use Rattle.vector_field.specs.Pairs.{has_lower, others}
 
 pub data Leads (space : List (List (List ℕ))) (pairs : List Pair) (dim last : ℕ) : ℕ → Type 0 where
   arrived : Leads space pairs dim last last
-  along : {next : ℕ} (p : Pair) → Contains pairs p → p.dim ≡ dim → Contains (others space p) next → Leads space pairs dim last next → Leads space pairs dim last p.lower
+  along : {next : ℕ} (p : Pair) → In p pairs → p.dim ≡ dim → In next (others space p) → Leads space pairs dim last next → Leads space pairs dim last p.lower
 
 pub record GradientPath (space : List (List (List ℕ))) (pairs : List Pair) (dim upper lower : ℕ) : Type 0 where
   pub first : ℕ
-  pub facet : Contains (facets_of space (dim + 1) upper) first
+  pub facet : In first (facets_of space (dim + 1) upper)
   pub other : first ≢ lower
   pub leads : Leads space pairs dim lower first
 

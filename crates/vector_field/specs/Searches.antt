@@ -4,10 +4,11 @@
 --   HasSteps space pairs dim facet old new        all that lead to the facet by one pair were put last
 --   reaches_found found lower facets              whether some other facet was found
 --   IsOpen space pairs dim lower upper found      a coface that is in no pair and has no path to the cell, and what leads to the cell
-use Rattle.std.specs.Prelude.{◌≡◌, ◌≢◌, ◌⊎◌, ℕ, ◌+◌, ◌<◌, ◌≤◌, ◌&&◌, ◌==◌, List, length, not, Bool, true, false, slice_index_or, Contains}
+use Rattle.std.specs.Prelude.{◌≡◌, ◌≢◌, ◌⊎◌, ℕ, ◌+◌, ◌<◌, ◌≤◌, ◌&&◌, ◌==◌, List, length, not, Bool, true, false, slice_index_or}
 use Rattle.std.specs.List.{list_any}
+use Rattle.number_lists.specs.Members.{In}
 use Rattle.face_poset.specs.declared.cells.Pair.{Pair}
-use Rattle.face_poset.specs.Words.{holds}
+use Rattle.number_lists.specs.Words.{holds}
 use Rattle.face_poset.specs.Poset.{cofaces_of}
 use Rattle.vector_field.specs.Pairs.{pair, is_used}
 use Rattle.vector_field.specs.Paths.{leads_to, has_path}
@@ -18,7 +19,7 @@ IsLed space pairs dim last found = (f : ℕ) → holds found f ≡ leads_to spac
 pub record IsStep (space : List (List (List ℕ))) (pairs : List Pair) (dim facet lower : ℕ) : Type 0 where
   pub upper : ℕ
   pub coface : holds (cofaces_of space dim facet) upper ≡ true
-  pub paired : Contains pairs (pair dim lower upper)
+  pub paired : In (pair dim lower upper) pairs
   pub other : lower ≢ facet
 
 pub record HasSteps (space : List (List (List ℕ))) (pairs : List Pair) (dim facet : ℕ) (old new : List ℕ) : Type 0 where

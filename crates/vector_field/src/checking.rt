@@ -10,25 +10,26 @@ use crate::pairing::Pairing;
 use face_poset::{Graded, Pair};
 use std::alloc::{AllocError, Global};
 
-/// Whether the two cells are there, and the lower is a facet of the upper.
-fn is_incident<G: Graded>(graded: &G, pair: Pair) -> bool
-    ensures { result ≡ is_incident (G.space graded.now) pair }
+/// Whether the pair at an index fits between those before it and those after it.
+pub(crate) fn fits<G: Graded>(
+    graded: &G,
+    pairing: &Pairing,
+    last: &CellMap,
+    pairs: &[Pair],
+    index: usize,
+) -> bool
+    requires within { index < length pairs.now }
+    requires earlier { pairing.now.pairs ≡ take index pairs.now }
+    requires cells { pairing.now.counts ≡ counts_of (G.space graded.now) }
+    requires counts { lengths last.now ≡ counts_of (G.space graded.now) }
+    requires last { AreLast (G.space graded.now) pairs.now (length pairs.now) last.now }
+    ensures { result ≡ fits (G.space graded.now) (take index pairs.now) (pair_at pairs.now index) (drop (index + 1) pairs.now) }
 {
-    pair.dim < 3
-        && 1 <= pair.lower
-        && pair.lower <= graded.cells(pair.dim)
-        && 1 <= pair.upper
-        && pair.upper <= graded.cells(pair.dim + 1)
-        && graded
-            .facets(pair.dim + 1, pair.upper)
-            .contains(&pair.lower)
-}
-
-/// Whether the lower of the pair is a cell of dimension 0 to 2.
-fn has_its_lower<G: Graded>(graded: &G, pair: Pair) -> bool
-    ensures { result ≡ (nat_lt pair.dim 3 && (nat_le 1 pair.lower && nat_le pair.lower (count (G.space graded.now) pair.dim))) }
-{
-    pair.dim < 3 && 1 <= pair.lower && pair.lower <= graded.cells(pair.dim)
+    let pair = pairs[index];
+    is_incident(graded, pair)
+        && !pairing.is_used(pair.dim, pair.lower)
+        && !pairing.is_used(pair.dim + 1, pair.upper)
+        && comes_before_later(graded, last, pairs, index)
 }
 
 /// For each cell the last index, counted from 0, at which it is the lower of a pair.
@@ -49,6 +50,20 @@ pub(crate) fn last_places<G: Graded>(
         }
     }
     Ok(last)
+}
+
+/// Whether the two cells are there, and the lower is a facet of the upper.
+fn is_incident<G: Graded>(graded: &G, pair: Pair) -> bool
+    ensures { result ≡ is_incident (G.space graded.now) pair }
+{
+    pair.dim < 3
+        && 1 <= pair.lower
+        && pair.lower <= graded.cells(pair.dim)
+        && 1 <= pair.upper
+        && pair.upper <= graded.cells(pair.dim + 1)
+        && graded
+            .facets(pair.dim + 1, pair.upper)
+            .contains(&pair.lower)
 }
 
 /// Whether no other facet of the upper is the lower of a later pair of the same dimension.
@@ -79,24 +94,9 @@ fn is_after(place: Option<u32>, index: usize) -> bool
     }
 }
 
-/// Whether the pair at an index fits between those before it and those after it.
-pub(crate) fn fits<G: Graded>(
-    graded: &G,
-    pairing: &Pairing,
-    last: &CellMap,
-    pairs: &[Pair],
-    index: usize,
-) -> bool
-    requires within { index < length pairs.now }
-    requires earlier { pairing.now.pairs ≡ take index pairs.now }
-    requires cells { pairing.now.counts ≡ counts_of (G.space graded.now) }
-    requires counts { lengths last.now ≡ counts_of (G.space graded.now) }
-    requires last { AreLast (G.space graded.now) pairs.now (length pairs.now) last.now }
-    ensures { result ≡ fits (G.space graded.now) (take index pairs.now) (pair_at pairs.now index) (drop (index + 1) pairs.now) }
+/// Whether the lower of the pair is a cell of dimension 0 to 2.
+fn has_its_lower<G: Graded>(graded: &G, pair: Pair) -> bool
+    ensures { result ≡ (nat_lt pair.dim 3 && (nat_le 1 pair.lower && nat_le pair.lower (count (G.space graded.now) pair.dim))) }
 {
-    let pair = pairs[index];
-    is_incident(graded, pair)
-        && !pairing.is_used(pair.dim, pair.lower)
-        && !pairing.is_used(pair.dim + 1, pair.upper)
-        && comes_before_later(graded, last, pairs, index)
+    pair.dim < 3 && 1 <= pair.lower && pair.lower <= graded.cells(pair.dim)
 }

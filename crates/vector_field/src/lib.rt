@@ -11,7 +11,6 @@ mod checking;
 mod faces;
 mod fault;
 mod filling;
-mod found;
 mod free;
 mod laws;
 mod maximal;

@@ -2,10 +2,10 @@ ghost use Rattle.std.specs.Prelude.{◌≡◌, ◌↔◌, ◌<◌, IfOk, IsTrue}
 ghost use Rattle.vector_field.specs.Pairs.{IsFieldOf};
 ghost use Rattle.vector_field.specs.Maximal.{IsMaximal, is_maximal, is_maximal_at};
 
-use crate::found::Found;
 use crate::pair_list::PairList;
 use crate::search::open_coface;
 use face_poset::Graded;
+use number_lists::FoundNumbers;
 use std::alloc::{AllocError, Global};
 
 /// Whether each incident pair of critical cells has a gradient path from the upper to the lower by
@@ -49,7 +49,7 @@ fn are_settled_at<G: Graded>(
     requires field { IsFieldOf (G.space graded.now) field.now }
     ensures { IfOk result (λ answer. answer ≡ is_maximal_at (G.space graded.now) field.now.pairs dim) }
 {
-    let mut found = Found::new(alloc, graded.cells(dim))?;
+    let mut found = FoundNumbers::new(alloc, graded.cells(dim) as usize)?;
     let lowers = field.critical(dim);
     for lower in lowers {
         match open_coface(graded, field.pairing(), dim, *lower, &mut found)? {

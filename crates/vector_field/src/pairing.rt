@@ -1,14 +1,15 @@
-ghost use Rattle.std.specs.Prelude.{◌≡◌, ◌<◌, ◌≤◌, ◌+◌, ◌∷◌, ◌++◌, [], true, false, length, slice_index_or, MatchOption, Contains, IfOk, OnOk};
+ghost use Rattle.std.specs.Prelude.{◌≡◌, ◌<◌, ◌≤◌, ◌+◌, ◌∷◌, ◌++◌, [], true, false, length, slice_index_or, MatchOption, IfOk, OnOk};
 ghost use Rattle.std.specs.List.{list_any};
-ghost use Rattle.face_poset.specs.Words.{holds};
+ghost use Rattle.number_lists.specs.Members.{In};
+ghost use Rattle.number_lists.specs.Words.{holds};
 ghost use Rattle.face_poset.specs.declared.cells.Pair.{Pair};
 ghost use Rattle.vector_field.specs.Pairs.{pair, is_used, counts_of, IsPartner};
 ghost use Rattle.vector_field.specs.Pairings.{has_upper, HasCell, HasCells, inserted};
 
 use crate::cell_map::CellMap;
-use crate::found::Found;
 use crate::partner::Partner;
 use face_poset::{Graded, Pair};
+use number_lists::FoundNumbers;
 use std::alloc::{AllocError, Global};
 use std::marker::Model;
 
@@ -67,7 +68,7 @@ impl Pairing {
     pub(crate) fn lower_of(&self, dim: u8, cell: u32) -> Option<u32>
         requires dim { dim < 3 }
         requires cell { HasCell self.now.counts (dim + 1) cell }
-        ensures { MatchOption result (list_any (has_upper dim cell) self.now.pairs ≡ false) (λ lower. Contains self.now.pairs (pair dim lower cell)) }
+        ensures { MatchOption result (list_any (has_upper dim cell) self.now.pairs ≡ false) (λ lower. In (pair dim lower cell) self.now.pairs) }
     {
         self.lowers.get(dim + 1, cell)
     }
@@ -113,7 +114,7 @@ impl Pairing {
 
     /// Puts these pairs last.
     pub(crate) fn extend(&mut self, pairs: &[Pair]) -> Result<(), AllocError>
-        requires { (p : Pair) → Contains pairs.now p → HasCells self.old.counts p }
+        requires { (p : Pair) → In p pairs.now → HasCells self.old.counts p }
         ensures counts { self.new.counts ≡ self.old.counts }
         ensures pairs { OnOk result (self.new.pairs ≡ self.old.pairs ++ pairs.now) }
     {
@@ -128,10 +129,10 @@ impl Pairing {
         &mut self,
         alloc: Global,
         pair: Pair,
-        found: &Found,
+        found: &FoundNumbers,
     ) -> Result<(), AllocError>
         requires cells { HasCells self.old.counts pair }
-        requires lowers { (p : Pair) → Contains self.old.pairs p → p.dim ≡ pair.dim → (1 ≤ p.lower) × (p.lower ≤ found.now.most) }
+        requires lowers { (p : Pair) → In p self.old.pairs → p.dim ≡ pair.dim → (1 ≤ p.lower) × (p.lower ≤ found.now.most) }
         requires unused { is_used self.old.pairs pair.dim pair.lower ≡ false }
         requires found { holds found.now.found pair.lower ≡ true }
         ensures counts { self.new.counts ≡ self.old.counts }
@@ -156,9 +157,9 @@ fn inserted(
     alloc: Global,
     pairs: &[Pair],
     pair: Pair,
-    found: &Found,
+    found: &FoundNumbers,
 ) -> Result<Vec<Pair>, AllocError>
-    requires { (p : Pair) → Contains pairs.now p → p.dim ≡ pair.dim → (1 ≤ p.lower) × (p.lower ≤ found.now.most) }
+    requires { (p : Pair) → In p pairs.now → p.dim ≡ pair.dim → (1 ≤ p.lower) × (p.lower ≤ found.now.most) }
     ensures { IfOk result (λ all. all.items ≡ inserted pairs.now pair found.now.found) }
 {
     let mut first = Vec::new(alloc);

@@ -1,5 +1,5 @@
 ghost use Rattle.std.specs.Prelude.{◌≡◌, ◌+◌, ◌-◌, ◌≤◌, ◌<◌, ℕ, not, false, true, length, slice_set, IfOk, IfSome, OnOk};
-ghost use Rattle.face_poset.specs.Words.{holds};
+ghost use Rattle.number_lists.specs.Words.{holds};
 ghost use Rattle.face_poset.specs.Poset.{count};
 ghost use Rattle.vector_field.specs.Pairs.{counts_of, is_used};
 ghost use Rattle.vector_field.specs.Pairings.{HasCell};

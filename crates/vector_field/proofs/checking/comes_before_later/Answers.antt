@@ -3,14 +3,14 @@ use Rattle.std.specs.List.{list_any}
 use Rattle.std.proofs.lemmas.Bool.{false≢true, false_from_ne_true, not_from_false, eqb-true, eqb-false, not-true, or_cases}
 use Rattle.std.proofs.lemmas.List.{take_all}
 use Rattle.face_poset.specs.declared.cells.Pair.{Pair}
-use Rattle.face_poset.specs.Words.{holds}
+use Rattle.number_lists.specs.Words.{holds}
 use Rattle.face_poset.specs.Poset.{count, facets_of, IsSpace}
-use Rattle.number_lists.proofs.CallerLemmas.{holds_more}
+use Rattle.number_lists.proofs.CallerLemmas.{holds_more, at-In, In-all, all-In, filter-In, In-inside, In-holds}
 use Rattle.vector_field.specs.CellMaps.{at}
 use Rattle.vector_field.specs.Pairs.{has_lower, is_incident, others, comes_before, counts_of}
 use Rattle.vector_field.specs.Pairings.{lengths}
 use Rattle.vector_field.specs.LastPlaces.{pair_at, AreLast}
-use Rattle.vector_field.proofs.Members.{In, at-In, In-all, all-In, filter-In, In-inside, In-holds}
+use Rattle.number_lists.specs.Members.{In}
 use Rattle.vector_field.proofs.MaximalTest.{incident-true}
 use Rattle.vector_field.proofs.Paths.{other-In}
 use Rattle.vector_field.proofs.InRange.{facet-range}

@@ -1,6 +1,6 @@
 use Rattle.std.proofs.Common.{◌≡◌, ◌≢◌, ℕ, ◌+◌, take, drop, true, false}
 use Rattle.std.specs.List.{list_any}
-use Rattle.face_poset.specs.Words.{holds}
+use Rattle.number_lists.specs.Words.{holds}
 use Rattle.vector_field.specs.Pairs.{has_lower}
 use Rattle.vector_field.proofs.checking.comes_before_later.Given as goal
 

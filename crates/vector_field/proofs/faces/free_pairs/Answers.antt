@@ -1,11 +1,12 @@
 use Rattle.std.proofs.Common.{◌≡◌, ℕ, ◌+◌, ◌-◌, ◌<◌, ◌≤◌, List, [], ◌∷◌, ◌++◌, Bool, true, false, length, set, ap, sym, ◌∙◌, subst, arith, All}
 use Rattle.std.proofs.lemmas.List.{length-set}
 use Rattle.face_poset.specs.declared.cells.Pair.{Pair}
-use Rattle.face_poset.specs.Words.{holds}
+use Rattle.number_lists.specs.Words.{holds}
 use Rattle.face_poset.specs.Poset.{count, facets_of, cofaces_of, IsSpace}
 use Rattle.vector_field.specs.Pairs.{pair, IsValid}
 use Rattle.vector_field.specs.Stages.{Left, IsOnly}
-use Rattle.vector_field.proofs.Members.{In, holds-In, In-Contains}
+use Rattle.number_lists.specs.Members.{In}
+use Rattle.number_lists.proofs.CallerLemmas.{holds-In}
 use Rattle.vector_field.proofs.MaximalTest.{Coface, cofaces-In}
 use Rattle.vector_field.proofs.InRange.{facet-range}
 use Rattle.vector_field.proofs.Making.{IsMaking, making_begun, making_less, making_more, making_done, dims-reverse}
@@ -19,7 +20,7 @@ loop-turn-init g c =
       c.in_ok-rest.ensures.most,
       c.in_ok-rest.ensures.len,
       subst (λ (made : List Pair). IsMaking space c.args.dim c.args.pairing.now.pairs made c.in_ok-rest.rest.cells) (sym c.new-made.ensures.items)
-          (making_begun space c.args.dim c.args.pairing.now.pairs (λ q m. c.requires.field.above q (In-Contains m)) c.in_ok-rest.rest.cells c.in_ok-rest.ensures.len c.in_ok-rest.ensures.left),
+          (making_begun space c.args.dim c.args.pairing.now.pairs (λ q m. c.requires.field.above q m) c.in_ok-rest.rest.cells c.in_ok-rest.ensures.len c.in_ok-rest.ensures.left),
     )
 
 -- the cofaces of a facet, and the facets of a cell, are there
@@ -86,7 +87,7 @@ loop-turn-preserved g c =
           let gone : c.match-next_free.rest.cells ≡ set cells (w.in-Some-only.upper - 1) false = ap (λ (l : Left). l.cells) w.rest-is ∙ (w.remove.ensures.cells ∙ ap (λ (cs : List Bool). set cs (w.in-Some-only.upper - 1) false) same) in (
             ap (λ (l : Left). l.most) w.rest-is ∙ (w.remove.ensures.most ∙ (c.next_free.ensures.most ∙ c.loop-turn.invariant.0)),
             ap (λ (cs : List Bool). length cs) gone ∙ (length-set cells (w.in-Some-only.upper - 1) false ∙ c.loop-turn.invariant.1),
-            more space dim ps (λ q m. c.requires.field.above q (In-Contains m)) made c.match-next_free.made.items cells c.match-next_free.rest.cells w.in-Some.lower w.in-Some-only.upper c.requires.dim
+            more space dim ps (λ q m. c.requires.field.above q m) made c.match-next_free.made.items cells c.match-next_free.rest.cells w.in-Some.lower w.in-Some-only.upper c.requires.dim
                 w.in-Some.ensures.facet.0 (omega (arith, w.in-Some.ensures.facet.1, c.loop-turn.invariant.0)) c.loop-turn.invariant.1
                 (subst (λ (us : List ℕ). IsOnly cells us w.in-Some-only.upper) w.cofaces.ensures.cofaces (subst (λ (cs : List Bool). IsOnly cs w.cofaces.result.now w.in-Some-only.upper) same w.in-Some-only.ensures))
                 (ap (λ v. v.items) w.made-is ∙ w.in_ok-push-in-Some.ensures.items) gone c.loop-turn.invariant.2,
@@ -103,7 +104,7 @@ loop-turn-preserved g c =
             ap (λ (l : Left). l.most) w.rest-is ∙ (w.remove-in-Some-next_left.ensures.most ∙ (w.next_left.ensures.most ∙ (c.next_free.ensures.most ∙ c.loop-turn.invariant.0))),
             ap (λ (cs : List Bool). length cs) gone ∙ (length-set cells (cell - 1) false ∙ c.loop-turn.invariant.1),
             stays space dim ps made c.match-next_free.made.items (set cells (cell - 1) false) c.match-next_free.rest.cells (ap (λ v. v.items) w.made-is) gone
-                (making_less space dim ps (λ q m. c.requires.field.above q (In-Contains m)) made cells cell w.in-Some-next_left.ensures.cell.0 last c.loop-turn.invariant.2),
+                (making_less space dim ps (λ q m. c.requires.field.above q m) made cells cell w.in-Some-next_left.ensures.cell.0 last c.loop-turn.invariant.2),
           )
     ]
   where
@@ -118,7 +119,7 @@ pub returns-clause-valid : goal.returns-clause-valid
 returns-clause-valid g c =
     let space : List (List (List ℕ)) = g.G.Graded.space c.args.graded.now in
     subst (λ (ms : List Pair). IsValid space (c.args.pairing.now.pairs ++ ms)) (sym c.reverse.ensures.items)
-    (making_done space c.args.dim c.args.pairing.now.pairs (λ q m. c.requires.field.above q (In-Contains m)) c.loop-turn.made.items c.loop-turn.rest.cells c.requires.field.valid c.loop-turn.invariant.2)
+    (making_done space c.args.dim c.args.pairing.now.pairs (λ q m. c.requires.field.above q m) c.loop-turn.made.items c.loop-turn.rest.cells c.requires.field.valid c.loop-turn.invariant.2)
 
 pub returns-clause-dims : goal.returns-clause-dims
 returns-clause-dims g c =

@@ -1,9 +1,10 @@
-use Rattle.std.proofs.Common.{◌≡◌, inl, inr, ℕ, ◌<◌, ◌≤◌, List, true, false, Option, Some, MatchOption, ap, sym, ◌∙◌, subst, arith, Contains}
+use Rattle.std.proofs.Common.{◌≡◌, inl, inr, ℕ, ◌<◌, ◌≤◌, List, true, false, Option, Some, MatchOption, ap, sym, ◌∙◌, subst, arith}
 use Rattle.std.specs.List.{list_all}
 use Rattle.std.proofs.lemmas.Option.{MatchOption-at_some}
 use Rattle.std.proofs.lemmas.Result.{on_ok_weaker}
+use Rattle.number_lists.specs.Members.{In}
 use Rattle.face_poset.specs.declared.cells.Pair.{Pair}
-use Rattle.face_poset.specs.Words.{holds}
+use Rattle.number_lists.specs.Words.{holds}
 use Rattle.face_poset.specs.Poset.{count, cofaces_of}
 use Rattle.vector_field.specs.Pairs.{pair, is_used, Field, IsValid}
 use Rattle.vector_field.specs.Pairings.{HasCells, inserted}
@@ -11,7 +12,7 @@ use Rattle.vector_field.specs.Paths.{arrived}
 use Rattle.vector_field.specs.Maximal.{is_settled}
 use Rattle.vector_field.specs.Searches.{IsOpen}
 use Rattle.vector_field.specs.Stages.{IsAbove, Keeps}
-use Rattle.vector_field.proofs.Members.{holds-In, In-Contains, Contains-In}
+use Rattle.number_lists.proofs.CallerLemmas.{holds-In}
 use Rattle.vector_field.proofs.Paths.{leads-complete}
 use Rattle.vector_field.proofs.MaximalTest.{Incident, incident-from, incident-coface}
 use Rattle.vector_field.proofs.Inserted.{inserted-kept, inserted-only, inserted-valid}
@@ -36,21 +37,21 @@ module _ (space : List (List (List ℕ))) (dim lower upper : ℕ) (field : Field
   lower_found : holds found lower ≡ true
   lower_found = opened.led lower ∙ leads-complete space field.pairs dim lower lower arrived
 
-  lowers_there : (most : ℕ) → most ≡ count space dim → (p : Pair) → Contains field.pairs p → p.dim ≡ dim → (1 ≤ p.lower) × (p.lower ≤ most)
+  lowers_there : (most : ℕ) → most ≡ count space dim → (p : Pair) → In p field.pairs → p.dim ≡ dim → (1 ≤ p.lower) × (p.lower ≤ most)
   lowers_there most e p m d = let i = incident-of space dim field above p m in (i.first, omega (arith, e, subst (λ (n : ℕ). p.lower ≤ count space n) d i.last))
 
   still_above : (new : Field) → new.counts ≡ field.counts → new.pairs ≡ inserted field.pairs (pair dim lower upper) found → IsAbove space dim new
   still_above new e f = record {
     counts = e ∙ above.counts;
     valid = subst (IsValid space) (sym f) (inserted-valid space field.pairs dim lower upper found above.valid (incident-from space (pair dim lower upper) new_incident) unused opened.free opened.pathless opened.led);
-    above = λ p m. elim (inserted-only field.pairs (pair dim lower upper) found (Contains-In (subst (λ (ps : List Pair). Contains ps p) f m))) [
-      | inl k ↦ above.above p (In-Contains k)
+    above = λ p m. elim (inserted-only field.pairs (pair dim lower upper) found (subst (λ (ps : List Pair). In p ps) f m)) [
+      | inl k ↦ above.above p k
       | inr k ↦ let d : p.dim ≡ dim = ap (λ (q : Pair). q.dim) k in omega arith
     ];
   }
 
   all_kept : (new : Field) → new.pairs ≡ inserted field.pairs (pair dim lower upper) found → Keeps field.pairs new.pairs
-  all_kept new f p m = subst (λ (ps : List Pair). Contains ps p) (sym f) (In-Contains (inserted-kept field.pairs (pair dim lower upper) found (Contains-In m)))
+  all_kept new f p m = subst (λ (ps : List Pair). In p ps) (sym f) (inserted-kept field.pairs (pair dim lower upper) found m)
 
 pub insert-requires-clause-cells : goal.insert-requires-clause-cells
 insert-requires-clause-cells g c =

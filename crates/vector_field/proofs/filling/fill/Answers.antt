@@ -4,7 +4,7 @@ use Rattle.std.proofs.lemmas.Bool.{or_left}
 use Rattle.face_poset.specs.declared.cells.Pair.{Pair}
 use Rattle.face_poset.specs.Poset.{cofaces_of}
 use Rattle.vector_field.specs.Pairs.{is_used, Field}
-use Rattle.vector_field.specs.Founds.{Numbers}
+use Rattle.number_lists.specs.Found.{Numbers}
 use Rattle.vector_field.specs.Maximal.{is_settled}
 use Rattle.vector_field.specs.Stages.{IsAbove, Keeps, AreSettled}
 use Rattle.vector_field.proofs.Settled.{are-settled-more, settled-next}

@@ -11,7 +11,8 @@ use Rattle.vector_field.specs.Pairings.{IsPairing}
 use Rattle.vector_field.specs.Paths.{has_path}
 use Rattle.vector_field.specs.Maximal.{is_settled, is_maximal_at}
 use Rattle.vector_field.specs.Searches.{IsOpen}
-use Rattle.vector_field.proofs.Members.{In, at-In, all-In, holds-In}
+use Rattle.number_lists.specs.Members.{In}
+use Rattle.number_lists.proofs.CallerLemmas.{at-In, all-In, holds-In}
 use Rattle.vector_field.proofs.Fields.{pairing-from, critical-is, critical_at}
 use Rattle.vector_field.proofs.maximal.are_settled_at.Goals as goal
 

@@ -1,13 +1,14 @@
-use Rattle.std.proofs.Common.{◌≡◌, ◌≢◌, ℕ, ◌+◌, ◌<◌, List, [], ◌∷◌, ◌++◌, take, length, get_or, ap, sym, ◌∙◌, subst, Contains, arith, refl}
+use Rattle.std.proofs.Common.{◌≡◌, ◌≢◌, ℕ, ◌+◌, ◌<◌, List, [], ◌∷◌, ◌++◌, take, length, get_or, ap, sym, ◌∙◌, subst, arith, refl}
 use Rattle.std.proofs.lemmas.List.{take_more, take_all}
+use Rattle.number_lists.specs.Members.{In}
 use Rattle.face_poset.specs.declared.cells.Pair.{Pair}
 use Rattle.vector_field.specs.Pairs.{pair}
 use Rattle.vector_field.specs.Pairings.{has_upper}
-use Rattle.vector_field.specs.Founds.{Numbers, with_number}
-use Rattle.vector_field.proofs.Members.{Contains-In, none-In}
+use Rattle.number_lists.specs.Found.{Numbers, inserted}
+use Rattle.number_lists.proofs.CallerLemmas.{none-In, IsMore, is_more}
 use Rattle.vector_field.proofs.Noted.{has_upper-from}
 use Rattle.vector_field.proofs.CofaceAt.{coface_cell}
-use Rattle.vector_field.proofs.Led.{IsMore, is_more, IsAdding, adding-none, adding-found, adding-skip, adding-all}
+use Rattle.vector_field.proofs.Led.{IsAdding, adding-none, adding-found, adding-skip, adding-all}
 use Rattle.vector_field.proofs.search.find_steps.Goals as goal
 use Rattle.vector_field.proofs.search.find_steps.Goals.{in-Some+then-lower-facet+in_ok-insert-in-Some, in-Some+else-lower-facet, in-None}
 
@@ -17,13 +18,13 @@ lower_of-requires-clause-cell g c =
 
 module _ (space : List (List (List ℕ))) (pairs : List Pair) (dim facet : ℕ) (uppers old : List ℕ) (i : ℕ) (l : i < length uppers) where
   -- one upper more is looked at
-  adding_taken : (new new' : List ℕ) (lower : ℕ) → Contains pairs (pair dim lower (get_or uppers i 0)) → lower ≢ facet → ((p q : Pair) → Contains pairs p → Contains pairs q → p.dim ≡ q.dim → p.upper ≡ q.upper → p ≡ q)
-      → new' ≡ with_number new lower → IsAdding pairs dim facet (take i uppers) old new → IsAdding pairs dim facet (take (i + 1) uppers) old new'
+  adding_taken : (new new' : List ℕ) (lower : ℕ) → In (pair dim lower (get_or uppers i 0)) pairs → lower ≢ facet → ((p q : Pair) → In p pairs → In q pairs → p.dim ≡ q.dim → p.upper ≡ q.upper → p ≡ q)
+      → new' ≡ inserted new lower → IsAdding pairs dim facet (take i uppers) old new → IsAdding pairs dim facet (take (i + 1) uppers) old new'
   adding_taken new new' lower m n one e h =
       subst (λ (us : List ℕ). IsAdding pairs dim facet us old new') (sym (take_more uppers i 0 l))
-      (adding-found pairs dim facet (take i uppers) old new new' (get_or uppers i 0) lower m n one (subst (IsMore lower new) (sym e) (is_more lower new)) h)
+      (adding-found pairs dim facet (take i uppers) old new new' (get_or uppers i 0) lower m n one (subst (IsMore new lower) (sym e) (is_more new lower)) h)
 
-  adding_passed : (new new' : List ℕ) → ((lower : ℕ) → Contains pairs (pair dim lower (get_or uppers i 0)) → lower ≡ facet) → new' ≡ new → IsAdding pairs dim facet (take i uppers) old new → IsAdding pairs dim facet (take (i + 1) uppers) old new'
+  adding_passed : (new new' : List ℕ) → ((lower : ℕ) → In (pair dim lower (get_or uppers i 0)) pairs → lower ≡ facet) → new' ≡ new → IsAdding pairs dim facet (take i uppers) old new → IsAdding pairs dim facet (take (i + 1) uppers) old new'
   adding_passed new new' none e h =
       subst (λ (us : List ℕ). IsAdding pairs dim facet us old new') (sym (take_more uppers i 0 l))
       (subst (IsAdding pairs dim facet (take i uppers ++ get_or uppers i 0 ∷ []) old) (sym e) (adding-skip pairs dim facet (take i uppers) old new (get_or uppers i 0) none h))
@@ -48,7 +49,7 @@ loop-upper-preserved g c =
       | in-None w ↦ (
         ap (λ (n : Numbers). n.most) w.found-is ∙ c.loop-upper.invariant.0,
         adding_passed space pairs c.args.dim c.args.facet uppers c.args.found.now.found c.loop-upper.upper-index c.loop-upper-test.true c.loop-upper.found.found c.match-lower_of.found.found
-            (λ lower m. absurd (none-In (has_upper c.args.dim (get_or uppers c.loop-upper.upper-index 0)) w.in-None.ensures (Contains-In m) (has_upper-from (pair c.args.dim lower (get_or uppers c.loop-upper.upper-index 0)) c.args.dim (get_or uppers c.loop-upper.upper-index 0) refl refl)))
+            (λ lower m. absurd (none-In (has_upper c.args.dim (get_or uppers c.loop-upper.upper-index 0)) w.in-None.ensures m (has_upper-from (pair c.args.dim lower (get_or uppers c.loop-upper.upper-index 0)) c.args.dim (get_or uppers c.loop-upper.upper-index 0) refl refl)))
             (ap (λ (n : Numbers). n.found) w.found-is) c.loop-upper.invariant.1,
       )
     ]

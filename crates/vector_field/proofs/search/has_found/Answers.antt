@@ -1,4 +1,4 @@
-use Rattle.vector_field.proofs.Members.{In-holds, at-In}
+use Rattle.number_lists.proofs.CallerLemmas.{In-holds, at-In}
 use Rattle.std.proofs.Common.{get_or}
 use Rattle.vector_field.proofs.search.has_found.Goals as goal
 

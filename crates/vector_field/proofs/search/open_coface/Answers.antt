@@ -4,13 +4,13 @@ use Rattle.std.proofs.lemmas.Bool.{and_from, or_left, or_right}
 use Rattle.std.proofs.lemmas.List.{take_all}
 use Rattle.std.proofs.lemmas.List.Folds.{list_all_more}
 use Rattle.face_poset.specs.declared.cells.Pair.{Pair}
-use Rattle.face_poset.specs.Words.{holds}
+use Rattle.number_lists.specs.Words.{holds}
 use Rattle.face_poset.specs.Poset.{facets_of, cofaces_of}
 use Rattle.vector_field.specs.Pairs.{is_used}
 use Rattle.vector_field.specs.Paths.{leads_to, has_path}
 use Rattle.vector_field.specs.Maximal.{is_settled}
 use Rattle.vector_field.specs.Searches.{IsLed, reaches_found}
-use Rattle.vector_field.proofs.Members.{In-holds, holds-In, In-all, all-In}
+use Rattle.number_lists.proofs.CallerLemmas.{In-holds, holds-In, In-all, all-In}
 use Rattle.vector_field.proofs.MaximalTest.{cofaces-In}
 use Rattle.vector_field.proofs.InRange.{facet-range, has_cell}
 use Rattle.vector_field.proofs.CofaceAt.{coface_in, coface_at, coface_cell}

@@ -1,5 +1,6 @@
-use Rattle.std.proofs.Common.{◌≤◌, ℕ, List, length, ap, sym, ◌∙◌, subst, arith, Contains}
+use Rattle.std.proofs.Common.{◌≤◌, ℕ, List, length, ap, sym, ◌∙◌, subst, arith}
 use Rattle.std.proofs.lemmas.Result.{on_ok_weaker}
+use Rattle.number_lists.specs.Members.{In}
 use Rattle.face_poset.specs.declared.cells.Pair.{Pair}
 use Rattle.vector_field.specs.Pairs.{Field}
 use Rattle.vector_field.specs.Pairings.{IsNoted, inserted}
@@ -9,7 +10,7 @@ use Rattle.vector_field.proofs.pairing.Pairing.insert.Goals as goal
 
 pub inserted-requires : goal.inserted-requires
 inserted-requires c p m d =
-    c.requires.lowers p (subst (λ (ps : List Pair). Contains ps p) (c.deref.ensures.value ∙ ap (λ (f : Field). f.pairs) c.self.view_is) m) d
+    c.requires.lowers p (subst (λ (ps : List Pair). In p ps) (c.deref.ensures.value ∙ ap (λ (f : Field). f.pairs) c.self.view_is) m) d
 
 pub invariant_of-self : goal.invariant_of-self
 invariant_of-self c =

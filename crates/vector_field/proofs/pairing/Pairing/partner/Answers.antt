@@ -1,4 +1,5 @@
-use Rattle.std.proofs.Common.{◌≡◌, ℕ, ◌+◌, get_or, arith, List, false, ap, sym, ◌∙◌, subst, Contains}
+use Rattle.std.proofs.Common.{◌≡◌, ℕ, ◌+◌, get_or, arith, List, false, ap, sym, ◌∙◌, subst}
+use Rattle.number_lists.specs.Members.{In}
 use Rattle.face_poset.specs.declared.cells.Pair.{Pair}
 use Rattle.vector_field.specs.Pairs.{pair, is_used, Field}
 use Rattle.std.proofs.lemmas.Bool.{false≢true}
@@ -7,7 +8,7 @@ use Rattle.vector_field.proofs.pairing.Pairing.partner.Goals as goal
 
 pub returns-in-Some-get : goal.returns-in-Some-get
 returns-in-Some-get c =
-    subst (λ (ps : List Pair). (below : ℕ) × (c.args.dim ≡ below + 1) × Contains ps (pair below c.in-Some-get.lower c.args.cell)) (ap (λ (f : Field). f.pairs) c.self.view_is)
+    subst (λ (ps : List Pair). (below : ℕ) × (c.args.dim ≡ below + 1) × In (pair below c.in-Some-get.lower c.args.cell) ps) (ap (λ (f : Field). f.pairs) c.self.view_is)
     (lower_above c.self.inside.pairs.items c.self.inside.uppers c.self.inside.lowers c.self.invariant c.args.dim c.args.cell c.in-Some-get.lower (c.has.ensures.0 c.if-not-has.false).0 (sym c.in-Some-get.ensures))
 
 pub returns-in-None-get : goal.returns-in-None-get

@@ -2,7 +2,7 @@ use Rattle.std.proofs.Common.{◌≤◌, ◌∷◌, ◌++◌, [], List, length, 
 use Rattle.std.proofs.lemmas.List.{length_push}
 use Rattle.face_poset.specs.declared.cells.Pair.{Pair}
 use Rattle.vector_field.specs.Pairings.{IsNoted}
-use Rattle.vector_field.proofs.Members.{In-left, In-last, push-In}
+use Rattle.number_lists.proofs.CallerLemmas.{In-left, In-last, push-In}
 use Rattle.vector_field.proofs.Noted.{noted-more}
 use Rattle.vector_field.proofs.pairing.Pairing.push.Goals as goal
 

@@ -1,5 +1,5 @@
 use Rattle.std.proofs.Common.{get_or}
-use Rattle.vector_field.proofs.Members.{In-holds, at-In}
+use Rattle.number_lists.proofs.CallerLemmas.{In-holds, at-In}
 use Rattle.vector_field.proofs.rest.Rest.count.Goals as goal
 
 pub holds-requires-clause-first : goal.holds-requires-clause-first

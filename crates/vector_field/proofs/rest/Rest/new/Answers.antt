@@ -1,7 +1,7 @@
 use Rattle.std.proofs.Common.{◌≡◌, ℕ, ◌+◌, List, Bool, true, length, ap, subst, arith}
-use Rattle.face_poset.specs.Words.{holds}
+use Rattle.number_lists.specs.Words.{holds}
 use Rattle.face_poset.specs.Poset.{cofaces_of}
-use Rattle.vector_field.proofs.Members.{holds-In}
+use Rattle.number_lists.proofs.CallerLemmas.{holds-In}
 use Rattle.vector_field.proofs.MaximalTest.{cofaces-In}
 use Rattle.vector_field.proofs.rest.Rest.new.Goals as goal
 

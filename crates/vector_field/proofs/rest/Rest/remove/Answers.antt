@@ -1,5 +1,5 @@
 use Rattle.std.proofs.Common.{get_or, arith}
-use Rattle.vector_field.proofs.Members.{In-holds, at-In}
+use Rattle.number_lists.proofs.CallerLemmas.{In-holds, at-In}
 use Rattle.vector_field.proofs.rest.Rest.remove.Goals as goal
 
 pub leave-requires-clause-first : goal.leave-requires-clause-first
