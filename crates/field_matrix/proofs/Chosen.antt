@@ -1,9 +1,9 @@
-use Rattle.std.proofs.Common.{◌≡◌, ◌≢◌, ℕ, zero, suc, ◌+◌, ◌-◌, ◌<◌, ◌≤◌, true, false, nat_lt, List, [], ◌∷◌, ◌++◌, length, map, take, drop, replicate, get_or, refl, ap, sym, ◌∙◌, arith, subst}
+use Rattle.std.proofs.Common.{◌≡◌, ◌≢◌, ℕ, zero, suc, ◌+◌, ◌-◌, ◌<◌, ◌≤◌, List, [], ◌∷◌, ◌++◌, length, map, take, drop, replicate, get_or, refl, ap, sym, ◌∙◌, arith, subst}
 use Rattle.std.specs.List.{AllByRecursion}
 use Rattle.std.proofs.lemmas.Simd.{length-replicate, get_or-replicate}
 use Rattle.std.proofs.lemmas.List.{length-map, length-take-le, get_or-take, get_or-map, get_or_default, ext_get_or}
 use Rattle.std.proofs.lemmas.List.Elements.{recursion_from_All}
-use Rattle.std.proofs.lemmas.Bool.Decides.{nat_tests}
+use Rattle.std.proofs.lemmas.Bool.{lt-ltb, le-ltb}
 use native.Mathlib.Decide.{dec_lt}
 use Prim.{yes, no}
 use Rattle.small_field.specs.Field.{Ops, IsField}
@@ -15,17 +15,11 @@ use Rattle.linear_laws.proofs.CallerLemmas.{dot_zeros, dot_comm, dot_added, comb
 use Rattle.small_field.proofs.CallerLemmas.{neg_unique, neg_mul, neg_neg}
 use Rattle.field_matrix.specs.Solutions.{above, rows_at}
 
-below_is : (p s : ℕ) → p < s → nat_lt p s ≡ true
-below_is p s h = grind (arith, nat_tests)
-
-from_is : (p s : ℕ) → s ≤ p → nat_lt p s ≡ false
-from_is p s h = grind (arith, nat_tests)
-
 pub above_low : (s p : ℕ) (ps : List ℕ) → p < s → above s (p ∷ ps) ≡ above s ps
-above_low s p ps h = rw (below_is p s h) refl
+above_low s p ps h = rw (lt-ltb p s h) refl
 
 pub above_high : (s p : ℕ) (ps : List ℕ) → s ≤ p → above s (p ∷ ps) ≡ (p - s) ∷ above s ps
-above_high s p ps h = rw (from_is p s h) refl
+above_high s p ps h = rw (le-ltb p s h) refl
 
 pub above_few : (s : ℕ) (ps : List ℕ) → length (above s ps) ≤ length ps
 above_few s [] = omega arith

@@ -1,24 +1,14 @@
-use Rattle.std.proofs.Common.{◌≡◌, ◌≢◌, ℕ, ◌+◌, ◌<◌, List, [], length, length-set, get_or, get_or-set_same, get_or-set_other, set, refl, ap, sym, ◌∙◌, arith, subst}
+use Rattle.std.proofs.Common.{◌≡◌, ◌≢◌, ℕ, ◌+◌, ◌<◌, List, [], length, length-set, get_or, get_or-set_same, get_or-set_other, set, ap, sym, ◌∙◌, arith, subst}
 use Rattle.std.proofs.lemmas.Simd.{get_or-zip2}
 use native.Mathlib.Decide.{dec_lt}
 use Prim.{yes, no}
 use Rattle.small_field.specs.Field.{Ops, IsField}
-use Rattle.linear_laws.specs.Vectors.{IsVector, IsMatrix, plus_scaled, row_at, entry}
+use Rattle.linear_laws.specs.Vectors.{IsVector, plus_scaled, row_at, entry}
 use Rattle.small_field.proofs.CallerLemmas.{add_zero, mul_zero}
 use Rattle.linear_laws.proofs.CallerLemmas.{same_span_trans, row_entry_below, addition_keeps_span, plus_scaled-vector, all_at, all_set}
 use Rattle.field_matrix.specs.Steps.{IsCleared, IsPivotRow}
 
 module _ (k : Ops) (f : IsField k) where
-  pub cleared_none : (cols rank col : ℕ) (rows : List (List ℕ)) → IsMatrix k cols rows → IsCleared k cols rank col 0 rows rows
-  cleared_none cols rank col rows a = record {
-    matrix = a;
-    long = refl;
-    span = record { there = λ v h. h; back = λ v h. h };
-    kept = refl;
-    earlier = λ i j h. refl;
-    clear = λ i h l ne. absurd (omega arith);
-  }
-
   -- nothing to do in a row
   pub cleared_more : (cols rank col i : ℕ) (before after : List (List ℕ)) → IsCleared k cols rank col i before after → (i ≢ rank → entry after i col ≡ 0) → IsCleared k cols rank col (i + 1) before after
   cleared_more cols rank col i before after h z = record {

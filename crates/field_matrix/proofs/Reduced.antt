@@ -1,33 +1,15 @@
-use Rattle.std.proofs.Common.{◌≡◌, ◌≢◌, ℕ, ◌+◌, ◌<◌, ◌≤◌, List, [], ◌∷◌, ◌++◌, length, length-append, get_or, refl, ap, sym, ◌∙◌, arith, subst}
+use Rattle.std.proofs.Common.{◌≡◌, ◌≢◌, ℕ, ◌+◌, ◌<◌, ◌≤◌, List, [], ◌∷◌, ◌++◌, length, length-append, get_or, ap, sym, ◌∙◌, arith, subst}
 use Rattle.std.proofs.lemmas.List.{get_or_append_left}
 use Rattle.std.proofs.Math.Seq.{get_or-append_seam}
 use native.Mathlib.Decide.{dec_lt}
 use Prim.{yes, no}
 use Rattle.small_field.specs.Field.{Ops, IsField}
-use Rattle.linear_laws.specs.Vectors.{IsMatrix, entry}
+use Rattle.linear_laws.specs.Vectors.{entry}
 use Rattle.linear_laws.specs.Echelon.{IsReducedTo, IsReducedBelow}
 use Rattle.linear_laws.proofs.CallerLemmas.{same_span_trans}
-use Rattle.field_matrix.specs.Steps.{IsBroughtUp, IsCleared, IsPivotRow}
+use Rattle.field_matrix.specs.Steps.{IsBroughtUp, IsCleared}
 
 module _ (k : Ops) (f : IsField k) where
-  pub reduced_start : (cols : ℕ) (rows : List (List ℕ)) → IsMatrix k cols rows → IsReducedTo k cols 0 0 rows rows
-  reduced_start cols rows a = record {
-    matrix = a;
-    long = refl;
-    span = record { there = λ v h. h; back = λ v h. h };
-    pivots = [];
-    rank_is = refl;
-    reduced = record {
-      few = omega arith;
-      within = λ i lt. absurd (omega arith);
-      rising = λ i j l lt. absurd (omega arith);
-      one = λ i lt. absurd (omega arith);
-      alone = λ i j lt l ne. absurd (omega arith);
-      first = λ i j lt l. absurd (omega arith);
-      zero = λ i j l li lj. absurd (omega arith);
-    };
-  }
-
   -- the rows from the rank on are zero at the column too
   pub reduced_none : (cols rank col : ℕ) (before after : List (List ℕ)) → ((i : ℕ) → rank ≤ i → i < length after → entry after i col ≡ 0) → IsReducedTo k cols rank col before after → IsReducedTo k cols rank (col + 1) before after
   reduced_none cols rank col before after none h =
@@ -53,9 +35,6 @@ module _ (k : Ops) (f : IsField k) where
               ];
         };
       }
-
-  pub reduced_pivot_row : (cols rank col : ℕ) (before after : List (List ℕ)) → rank < length before → IsBroughtUp k cols rank col before after → IsPivotRow after rank col
-  reduced_pivot_row cols rank col before after lr u = record { one = u.one; first = λ j lj. u.below rank j (omega arith) lr lj }
 
   pub reduced_more : (cols rank col : ℕ) (before now up after : List (List ℕ)) → rank < length now → IsReducedTo k cols rank col before now → IsBroughtUp k cols rank col now up → IsCleared k cols rank col (length up) up after → IsReducedTo k cols (rank + 1) (col + 1) before after
   reduced_more cols rank col before now up after lr h u c =

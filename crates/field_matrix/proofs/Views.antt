@@ -12,9 +12,6 @@ module _ (n c : ℕ) (xs : List ℕ) (v : Rows) (is : record { cols = c; rows = 
   pub row_within : (row : ℕ) → row < length v.rows → row < n
   row_within row lt = let l : row < length (cut n c xs) = subst (λ (w : Rows). row < length w.rows) (sym is) lt in omega (arith, length-cut n c xs)
 
-  pub col_within : (col : ℕ) → col < v.cols → col < c
-  col_within col lt = subst (λ (w : Rows). col < w.cols) (sym is) lt
-
   pub rows_are : length v.rows ≡ n
   rows_are = ap (λ (w : Rows). length w.rows) (sym is) ∙ length-cut n c xs
 

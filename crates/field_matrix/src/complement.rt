@@ -14,69 +14,20 @@ use crate::places::Places;
 use small_field::Field;
 use std::alloc::{AllocError, Global};
 
-/// Appends the entries of a column, from the first row on.
-fn push_column(
-    columns: &mut Vec<u8>,
-    entries: &[u8],
-    shape: Shape,
-    col: usize,
-) -> Result<(), AllocError>
-    requires shape { length entries.now ≡ shape.rows * shape.cols }
-    requires col { col < shape.cols }
-    ensures { IfOk result (λ _. columns.new.items ≡ columns.old.items ++ column col (cut shape.rows shape.cols entries.now)) }
-{
-    for row in 0..shape.rows {
-        columns.push(entry_of(entries, shape, row, col))?;
+impl<F: Field> Matrix<F> {
+    /// The rows that, together with each basis of the rows of `sub`, are a basis of the span of both.
+    pub fn complement(&self, alloc: Global, sub: &Matrix<F>) -> Result<Places, AllocError>
+        requires { sub.now.cols ≡ self.now.cols }
+        ensures { IfOk result (λ places. IsComplement F.ops self.now.cols sub.now.rows self.now.rows places) }
+    {
+        complement_rows::<F>(
+            alloc,
+            sub.entries(),
+            sub.shape(),
+            self.entries(),
+            self.shape(),
+        )
     }
-    Ok(())
-}
-
-/// The columns of the first rows and the others below them, each column as a row.
-fn transposed(
-    alloc: Global,
-    first: &[u8],
-    first_shape: Shape,
-    others: &[u8],
-    shape: Shape,
-) -> Result<Vec<u8>, AllocError>
-    requires first { length first.now ≡ first_shape.rows * first_shape.cols }
-    requires others { length others.now ≡ shape.rows * shape.cols }
-    requires cols { first_shape.cols ≡ shape.cols }
-    ensures long { IfOk result (λ columns. length columns.items ≡ shape.cols * (first_shape.rows + shape.rows)) }
-    ensures columns { IfOk result (λ columns. (j : ℕ) → j < shape.cols → row_at (cut shape.cols (first_shape.rows + shape.rows) columns.items) j ≡ column j (cut first_shape.rows shape.cols first.now ++ cut shape.rows shape.cols others.now)) }
-{
-    let mut columns = Vec::new(alloc);
-    for col in 0..shape.cols {
-        push_column(&mut columns, first, first_shape, col)?;
-        push_column(&mut columns, others, shape, col)?;
-    }
-    Ok(columns)
-}
-
-/// The pivots of the first `rank` rows from the column `begin` on, counted from there.
-fn pivots_from(
-    alloc: Global,
-    entries: &[u8],
-    shape: Shape,
-    begin: usize,
-    rank: usize,
-) -> Result<Vec<u32>, AllocError>
-    requires shape { length entries.now ≡ shape.rows * shape.cols }
-    requires begin { begin < 2 ^ 32 }
-    requires cols { shape.cols < begin + 2 ^ 32 }
-    requires begins { begin ≤ shape.cols }
-    requires reduced { IsReducedBy shape.cols rank (cut shape.rows shape.cols entries.now) }
-    ensures { IfOk result (λ places. (pivots : List ℕ) → IsReducedBelow shape.cols (cut shape.rows shape.cols entries.now) pivots → length pivots ≡ rank → places.items ≡ above begin pivots) }
-{
-    let mut places = Vec::new(alloc);
-    for i in 0..rank {
-        let (left, right) = row_of(entries, shape, i).split_at(begin);
-        let below = lane_rows::first_nonzero(left).is_some();
-        if !below {
-            places.push(lane_rows::first_nonzero(right).unwrap())?;
-        }
-    }
-    Ok(places)
 }
 
 /// The places of rows that, with a basis of the first rows, are a basis of the span of both.
@@ -105,18 +56,67 @@ fn complement_rows<F: Field>(
     Ok(Places::new(places))
 }
 
-impl<F: Field> Matrix<F> {
-    /// The rows that, together with each basis of the rows of `sub`, are a basis of the span of both.
-    pub fn complement(&self, alloc: Global, sub: &Matrix<F>) -> Result<Places, AllocError>
-        requires { sub.now.cols ≡ self.now.cols }
-        ensures { IfOk result (λ places. IsComplement F.ops self.now.cols sub.now.rows self.now.rows places) }
-    {
-        complement_rows::<F>(
-            alloc,
-            sub.entries(),
-            sub.shape(),
-            self.entries(),
-            self.shape(),
-        )
+/// The pivots of the first `rank` rows from the column `begin` on, counted from there.
+fn pivots_from(
+    alloc: Global,
+    entries: &[u8],
+    shape: Shape,
+    begin: usize,
+    rank: usize,
+) -> Result<Vec<u32>, AllocError>
+    requires shape { length entries.now ≡ shape.rows * shape.cols }
+    requires begin { begin < 2 ^ 32 }
+    requires cols { shape.cols < begin + 2 ^ 32 }
+    requires begins { begin ≤ shape.cols }
+    requires reduced { IsReducedBy shape.cols rank (cut shape.rows shape.cols entries.now) }
+    ensures { IfOk result (λ places. (pivots : List ℕ) → IsReducedBelow shape.cols (cut shape.rows shape.cols entries.now) pivots → length pivots ≡ rank → places.items ≡ above begin pivots) }
+{
+    let mut places = Vec::new(alloc);
+    for i in 0..rank {
+        let (left, right) = row_of(entries, shape, i).split_at(begin);
+        let below = lane_rows::first_nonzero(left).is_some();
+        if !below {
+            places.push(lane_rows::first_nonzero(right).unwrap())?;
+        }
     }
+    Ok(places)
+}
+
+/// The columns of the first rows and the others below them, each column as a row.
+fn transposed(
+    alloc: Global,
+    first: &[u8],
+    first_shape: Shape,
+    others: &[u8],
+    shape: Shape,
+) -> Result<Vec<u8>, AllocError>
+    requires first { length first.now ≡ first_shape.rows * first_shape.cols }
+    requires others { length others.now ≡ shape.rows * shape.cols }
+    requires cols { first_shape.cols ≡ shape.cols }
+    ensures long { IfOk result (λ columns. length columns.items ≡ shape.cols * (first_shape.rows + shape.rows)) }
+    ensures columns { IfOk result (λ columns. (j : ℕ) → j < shape.cols → row_at (cut shape.cols (first_shape.rows + shape.rows) columns.items) j ≡ column j (cut first_shape.rows shape.cols first.now ++ cut shape.rows shape.cols others.now)) }
+{
+    let mut columns = Vec::new(alloc);
+    for col in 0..shape.cols {
+        push_column(&mut columns, first, first_shape, col)?;
+        push_column(&mut columns, others, shape, col)?;
+    }
+    Ok(columns)
+}
+
+/// Appends the entries of a column, from the first row on.
+fn push_column(
+    columns: &mut Vec<u8>,
+    entries: &[u8],
+    shape: Shape,
+    col: usize,
+) -> Result<(), AllocError>
+    requires shape { length entries.now ≡ shape.rows * shape.cols }
+    requires col { col < shape.cols }
+    ensures { IfOk result (λ _. columns.new.items ≡ columns.old.items ++ column col (cut shape.rows shape.cols entries.now)) }
+{
+    for row in 0..shape.rows {
+        columns.push(entry_of(entries, shape, row, col))?;
+    }
+    Ok(())
 }

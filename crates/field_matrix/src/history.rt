@@ -24,6 +24,28 @@ pub struct Elimination<F: Field> {
     pub history: Matrix<F>,
 }
 
+impl<F: Field> Matrix<F> {
+    /// A reduced row echelon form, as `reduce` leaves it, and its history. Each row addition is one
+    /// step; there are at most rows times columns, also where memory is wanting.
+    pub fn eliminate<L: Ledger>(
+        &self,
+        alloc: Global,
+        steps: &mut Steps<L>,
+    ) -> Result<Elimination<F>, AllocError>
+        ensures cols { IfOk result (λ e. e.reduced.cols ≡ self.now.cols) }
+        ensures reduced { IfOk result (λ e. IsReducedTo F.ops self.now.cols (rank_of e.reduced.rows) self.now.cols self.now.rows e.reduced.rows) }
+        ensures history_cols { IfOk result (λ e. e.history.cols ≡ length self.now.rows) }
+        ensures history { IfOk result (λ e. IsHistory F.ops self.now.cols self.now.rows e.reduced.rows e.history.rows) }
+        ensures steps { steps.new ≤ steps.old + length self.now.rows * self.now.cols }
+    {
+        let halves = eliminate_rows::<F, L>(alloc, self.entries(), self.shape(), steps)?;
+        Ok(Elimination {
+            reduced: Matrix::from_entries(self.rows(), self.cols(), halves.left),
+            history: Matrix::from_entries(self.rows(), self.rows(), halves.right),
+        })
+    }
+}
+
 /// The entries of a reduced form, and of its history.
 #[derive(Drop)]
 struct Halves {
@@ -56,26 +78,4 @@ fn eliminate_rows<F: Field, L: Ledger>(
     let left = left_halves(alloc, &joined, wide, shape.cols)?;
     let right = right_halves(alloc, &joined, wide, shape.cols, 0)?;
     Ok(Halves { left, right })
-}
-
-impl<F: Field> Matrix<F> {
-    /// A reduced row echelon form, as `reduce` leaves it, and its history. Each row addition is one
-    /// step; there are at most rows times columns, also where memory is wanting.
-    pub fn eliminate<L: Ledger>(
-        &self,
-        alloc: Global,
-        steps: &mut Steps<L>,
-    ) -> Result<Elimination<F>, AllocError>
-        ensures cols { IfOk result (λ e. e.reduced.cols ≡ self.now.cols) }
-        ensures reduced { IfOk result (λ e. IsReducedTo F.ops self.now.cols (rank_of e.reduced.rows) self.now.cols self.now.rows e.reduced.rows) }
-        ensures history_cols { IfOk result (λ e. e.history.cols ≡ length self.now.rows) }
-        ensures history { IfOk result (λ e. IsHistory F.ops self.now.cols self.now.rows e.reduced.rows e.history.rows) }
-        ensures steps { steps.new ≤ steps.old + length self.now.rows * self.now.cols }
-    {
-        let halves = eliminate_rows::<F, L>(alloc, self.entries(), self.shape(), steps)?;
-        Ok(Elimination {
-            reduced: Matrix::from_entries(self.rows(), self.cols(), halves.left),
-            history: Matrix::from_entries(self.rows(), self.rows(), halves.right),
-        })
-    }
 }

@@ -11,25 +11,28 @@ use small_field::Field;
 use std::sync::ledger::Ledger;
 use step_count::Steps;
 
-/// One row addition, which is counted: adds factor times the row `from` to the row `to`.
-fn add_row<F: Field, L: Ledger>(
+/// Puts the first `upto` columns into reduced row echelon form, and answers how many pivots they have.
+pub fn reduce_rows<F: Field, L: Ledger>(
     entries: &mut [u8],
     shape: Shape,
-    to: usize,
-    from: usize,
-    factor: F,
+    upto: usize,
     steps: &mut Steps<L>,
-)
+) -> usize
     requires shape { length entries.old ≡ shape.rows * shape.cols }
-    requires to { to < shape.rows }
-    requires from { from < shape.rows }
-    requires apart { to ≢ from }
+    requires upto { upto ≤ shape.cols }
     requires matrix { IsMatrix F.ops shape.cols (cut shape.rows shape.cols entries.old) }
-    ensures rows { cut shape.rows shape.cols entries.new ≡ slice_set (cut shape.rows shape.cols entries.old) to (plus_scaled F.ops (F.number_of factor) (row_at (cut shape.rows shape.cols entries.old) to) (row_at (cut shape.rows shape.cols entries.old) from)) }
-    ensures steps { steps.new ≡ steps.old + 1 }
+    ensures reduced { IsReducedTo F.ops shape.cols result upto (cut shape.rows shape.cols entries.old) (cut shape.rows shape.cols entries.new) }
+    ensures steps { steps.new ≤ steps.old + shape.rows * result }
 {
-    steps.tick();
-    combine_rows(entries, shape, to, from, factor);
+    let mut rank = 0;
+    for col in 0..upto {
+        if let Some(here) = find_row(entries, shape, rank, col) {
+            bring_up::<F, L>(entries, shape, rank, here, col, steps);
+            clear_column::<F, L>(entries, shape, rank, col, steps);
+            rank += 1;
+        }
+    }
+    rank
 }
 
 /// The first row from `rank` on that is not zero at the column.
@@ -104,26 +107,23 @@ fn clear_column<F: Field, L: Ledger>(
     }
 }
 
-/// Puts the first `upto` columns into reduced row echelon form, and answers how many pivots they have.
-pub fn reduce_rows<F: Field, L: Ledger>(
+/// One row addition, which is counted: adds factor times the row `from` to the row `to`.
+fn add_row<F: Field, L: Ledger>(
     entries: &mut [u8],
     shape: Shape,
-    upto: usize,
+    to: usize,
+    from: usize,
+    factor: F,
     steps: &mut Steps<L>,
-) -> usize
+)
     requires shape { length entries.old ≡ shape.rows * shape.cols }
-    requires upto { upto ≤ shape.cols }
+    requires to { to < shape.rows }
+    requires from { from < shape.rows }
+    requires apart { to ≢ from }
     requires matrix { IsMatrix F.ops shape.cols (cut shape.rows shape.cols entries.old) }
-    ensures reduced { IsReducedTo F.ops shape.cols result upto (cut shape.rows shape.cols entries.old) (cut shape.rows shape.cols entries.new) }
-    ensures steps { steps.new ≤ steps.old + shape.rows * result }
+    ensures rows { cut shape.rows shape.cols entries.new ≡ slice_set (cut shape.rows shape.cols entries.old) to (plus_scaled F.ops (F.number_of factor) (row_at (cut shape.rows shape.cols entries.old) to) (row_at (cut shape.rows shape.cols entries.old) from)) }
+    ensures steps { steps.new ≡ steps.old + 1 }
 {
-    let mut rank = 0;
-    for col in 0..upto {
-        if let Some(here) = find_row(entries, shape, rank, col) {
-            bring_up::<F, L>(entries, shape, rank, here, col, steps);
-            clear_column::<F, L>(entries, shape, rank, col, steps);
-            rank += 1;
-        }
-    }
-    rank
+    steps.tick();
+    combine_rows(entries, shape, to, from, factor);
 }

@@ -16,6 +16,74 @@ use crate::row::Row;
 use small_field::Field;
 use std::alloc::{AllocError, Global};
 
+impl<F: Field> Matrix<F> {
+    /// Coefficients of the rows whose combination is `rhs`; None exactly where there are none.
+    pub fn solve(&self, alloc: Global, rhs: &Row<F>) -> Result<Option<Row<F>>, AllocError>
+        requires { length rhs.now ≡ self.now.cols }
+        ensures { IfOk result (λ answer. IsAnswer F.ops self.now.cols self.now.rows rhs.now answer) }
+    {
+        solve_rows::<F>(alloc, self.entries(), self.shape(), rhs.numbers())
+    }
+
+    /// A basis, as rows, of the coefficients whose combination of the rows is zero. Its length and
+    /// the rank add up to the number of rows.
+    pub fn kernel(&self, alloc: Global) -> Result<Matrix<F>, AllocError>
+        ensures cols { IfOk result (λ kernel. kernel.cols ≡ length self.now.rows) }
+        ensures basis { IfOk result (λ kernel. IsKernelBasis F.ops self.now.cols self.now.rows kernel.rows) }
+        ensures count { IfOk result (λ kernel. (rank : ℕ) (reduced : List (List ℕ)) → IsReducedTo F.ops self.now.cols rank self.now.cols self.now.rows reduced → length kernel.rows + rank ≡ length self.now.rows) }
+    {
+        let kernel = kernel_rows::<F>(alloc, self.entries(), self.shape())?;
+        let rows = self.rows() - kernel.rank as u32;
+        Ok(Matrix::from_entries(rows, self.rows(), kernel.joined))
+    }
+}
+
+/// Coefficients of the rows whose combination is `rhs`, or None where there are none.
+fn solve_rows<F: Field>(
+    alloc: Global,
+    entries: &[u8],
+    shape: Shape,
+    rhs: &[u8],
+) -> Result<Option<Row<F>>, AllocError>
+    requires shape { IsFilled F.ops shape.rows shape.cols entries.now }
+    requires few_rows { shape.rows < 2 ^ 32 }
+    requires few_cols { shape.cols < 2 ^ 32 }
+    requires rhs { IsVector F.ops shape.cols rhs.now }
+    ensures { IfOk result (λ answer. IsAnswer F.ops shape.cols (cut shape.rows shape.cols entries.now) rhs.now answer) }
+{
+    let history = reduce_beside::<F>(alloc, entries, shape)?;
+    let row = swept::<F>(alloc, &history, shape, rhs)?;
+    let (left, coefficients) = row.split_at(shape.cols);
+    if is_zero(left) {
+        let numbers = Vec::from_slice(alloc, coefficients)?;
+        Ok(Some(Row::from_numbers(numbers)))
+    } else {
+        Ok(None)
+    }
+}
+
+/// The rank, and the entries of a basis of the coefficients whose combination is zero.
+fn kernel_rows<F: Field>(alloc: Global, entries: &[u8], shape: Shape) -> Result<History, AllocError>
+    requires shape { IsFilled F.ops shape.rows shape.cols entries.now }
+    requires few_rows { shape.rows < 2 ^ 32 }
+    requires few_cols { shape.cols < 2 ^ 32 }
+    ensures rank { IfOk result (λ h. h.rank ≤ shape.rows) }
+    ensures entries { IfOk result (λ h. IsFilled F.ops (shape.rows - h.rank) shape.rows h.joined.items) }
+    ensures basis { IfOk result (λ h. IsKernelBasis F.ops shape.cols (cut shape.rows shape.cols entries.now) (cut (shape.rows - h.rank) shape.rows h.joined.items)) }
+    ensures count { IfOk result (λ h. (rank : ℕ) (reduced : List (List ℕ)) → IsReducedTo F.ops shape.cols rank shape.cols (cut shape.rows shape.cols entries.now) reduced → rank ≡ h.rank) }
+{
+    let history = reduce_beside::<F>(alloc, entries, shape)?;
+    let wide = Shape {
+        rows: shape.rows,
+        cols: shape.cols + shape.rows,
+    };
+    let joined = right_halves(alloc, &history.joined, wide, shape.cols, history.rank)?;
+    Ok(History {
+        joined,
+        rank: history.rank,
+    })
+}
+
 /// Rows of elements with the rows of the identity beside them, and how many pivots they have.
 #[derive(Drop)]
 struct History {
@@ -68,72 +136,4 @@ fn swept<F: Field>(
     let mut row = negated::<F>(alloc, rhs, shape.rows)?;
     sweep::<F>(&history.joined, wide, shape.cols, history.rank, &mut row);
     Ok(row)
-}
-
-/// Coefficients of the rows whose combination is `rhs`, or None where there are none.
-fn solve_rows<F: Field>(
-    alloc: Global,
-    entries: &[u8],
-    shape: Shape,
-    rhs: &[u8],
-) -> Result<Option<Row<F>>, AllocError>
-    requires shape { IsFilled F.ops shape.rows shape.cols entries.now }
-    requires few_rows { shape.rows < 2 ^ 32 }
-    requires few_cols { shape.cols < 2 ^ 32 }
-    requires rhs { IsVector F.ops shape.cols rhs.now }
-    ensures { IfOk result (λ answer. IsAnswer F.ops shape.cols (cut shape.rows shape.cols entries.now) rhs.now answer) }
-{
-    let history = reduce_beside::<F>(alloc, entries, shape)?;
-    let row = swept::<F>(alloc, &history, shape, rhs)?;
-    let (left, coefficients) = row.split_at(shape.cols);
-    if is_zero(left) {
-        let numbers = Vec::from_slice(alloc, coefficients)?;
-        Ok(Some(Row::from_numbers(numbers)))
-    } else {
-        Ok(None)
-    }
-}
-
-/// The rank, and the entries of a basis of the coefficients whose combination is zero.
-fn kernel_rows<F: Field>(alloc: Global, entries: &[u8], shape: Shape) -> Result<History, AllocError>
-    requires shape { IsFilled F.ops shape.rows shape.cols entries.now }
-    requires few_rows { shape.rows < 2 ^ 32 }
-    requires few_cols { shape.cols < 2 ^ 32 }
-    ensures rank { IfOk result (λ h. h.rank ≤ shape.rows) }
-    ensures entries { IfOk result (λ h. IsFilled F.ops (shape.rows - h.rank) shape.rows h.joined.items) }
-    ensures basis { IfOk result (λ h. IsKernelBasis F.ops shape.cols (cut shape.rows shape.cols entries.now) (cut (shape.rows - h.rank) shape.rows h.joined.items)) }
-    ensures count { IfOk result (λ h. (rank : ℕ) (reduced : List (List ℕ)) → IsReducedTo F.ops shape.cols rank shape.cols (cut shape.rows shape.cols entries.now) reduced → rank ≡ h.rank) }
-{
-    let history = reduce_beside::<F>(alloc, entries, shape)?;
-    let wide = Shape {
-        rows: shape.rows,
-        cols: shape.cols + shape.rows,
-    };
-    let joined = right_halves(alloc, &history.joined, wide, shape.cols, history.rank)?;
-    Ok(History {
-        joined,
-        rank: history.rank,
-    })
-}
-
-impl<F: Field> Matrix<F> {
-    /// Coefficients of the rows whose combination is `rhs`; None exactly where there are none.
-    pub fn solve(&self, alloc: Global, rhs: &Row<F>) -> Result<Option<Row<F>>, AllocError>
-        requires { length rhs.now ≡ self.now.cols }
-        ensures { IfOk result (λ answer. IsAnswer F.ops self.now.cols self.now.rows rhs.now answer) }
-    {
-        solve_rows::<F>(alloc, self.entries(), self.shape(), rhs.numbers())
-    }
-
-    /// A basis, as rows, of the coefficients whose combination of the rows is zero. Its length and
-    /// the rank add up to the number of rows.
-    pub fn kernel(&self, alloc: Global) -> Result<Matrix<F>, AllocError>
-        ensures cols { IfOk result (λ kernel. kernel.cols ≡ length self.now.rows) }
-        ensures basis { IfOk result (λ kernel. IsKernelBasis F.ops self.now.cols self.now.rows kernel.rows) }
-        ensures count { IfOk result (λ kernel. (rank : ℕ) (reduced : List (List ℕ)) → IsReducedTo F.ops self.now.cols rank self.now.cols self.now.rows reduced → length kernel.rows + rank ≡ length self.now.rows) }
-    {
-        let kernel = kernel_rows::<F>(alloc, self.entries(), self.shape())?;
-        let rows = self.rows() - kernel.rank as u32;
-        Ok(Matrix::from_entries(rows, self.rows(), kernel.joined))
-    }
 }

@@ -1,9 +1,9 @@
-use Rattle.std.proofs.Common.{◌≡◌, ◌≢◌, ℕ, zero, suc, ◌<◌, ◌⊎◌, inl, inr, List, [], ◌∷◌, ◌++◌, length, map, replicate, get_or, refl, ap, sym, ◌∙◌, arith, subst}
+use Rattle.std.proofs.Common.{◌≡◌, ◌≢◌, ℕ, zero, suc, ◌<◌, ◌⊎◌, inl, inr, List, [], ◌∷◌, ◌++◌, length, map, replicate, get_or, ap, sym, ◌∙◌, arith, subst}
 use Rattle.std.specs.List.{AllByRecursion}
 use Rattle.std.proofs.lemmas.List.{ext_get_or, nil_from_length}
 use Rattle.std.proofs.lemmas.Simd.{length-replicate, get_or-replicate, get_or-zip2}
 use Rattle.small_field.specs.Field.{Ops, IsField}
-use Rattle.linear_laws.specs.Vectors.{dot, column, IsVector, IsMatrix, combination, IsIndependent, IsRelated}
+use Rattle.linear_laws.specs.Vectors.{dot, column, IsVector, IsMatrix, combination, IsIndependent, IsNonzero}
 use Rattle.small_field.specs.Values.{AreElements}
 use Rattle.linear_laws.proofs.Dot.{dot_below, dot_zeros, dot_added, dot_comm}
 use Rattle.small_field.proofs.CallerLemmas.{add_zero, neg_unique, mul_neg, neg_neg, factor_zero}
@@ -14,6 +14,13 @@ use Rattle.linear_laws.proofs.Alls.{insert_all, remove_all}
 -- only zero solves the equations
 abbrev pub OnlyZero : Ops → ℕ → List (List ℕ) → Type 0
 OnlyZero k m rows = (xs : List ℕ) → IsVector k m xs → AllByRecursion (λ r. dot k r xs ≡ 0) rows → xs ≡ replicate m 0
+
+-- coefficients, not all zero, that give the zero vector
+pub record IsRelated (k : Ops) (n : ℕ) (vs : List (List ℕ)) : Type 0 where
+  pub coefficients : List ℕ
+  pub vector : IsVector k (length vs) coefficients
+  pub nonzero : IsNonzero coefficients
+  pub zero : combination k n coefficients vs ≡ replicate n 0
 
 module _ (k : Ops) (f : IsField k) where
   -- what holds of two rows holds of what is left of the second

@@ -1,10 +1,9 @@
-use Rattle.std.proofs.Common.{◌≡◌, ℕ, zero, suc, ◌+◌, ◌-◌, ◌<◌, ◌≤◌, ◌⊎◌, inl, inr, List, [], ◌∷◌, ◌++◌, length, map, take, drop, replicate, length-drop, refl, ap, sym, ◌∙◌, arith, subst}
+use Rattle.std.proofs.Common.{◌≡◌, ℕ, zero, suc, ◌+◌, ◌-◌, ◌<◌, ◌≤◌, ◌⊎◌, inl, inr, List, [], ◌∷◌, length, take, drop, replicate, length-drop, refl, ap, sym, ◌∙◌, arith, subst}
 use Rattle.std.specs.List.{AllByRecursion}
 use Rattle.std.proofs.lemmas.List.{length-take-le, take-replicate, drop-replicate, nil_from_length}
-use Rattle.std.proofs.Math.Seq.{drop-append_seam}
 use Rattle.small_field.specs.Field.{Ops, IsField}
 use Rattle.linear_laws.specs.Marks.{lefts, rights}
-use Rattle.linear_laws.specs.Vectors.{IsVector, IsMatrix, plus_scaled, combination, InSpan, IsIndependent, row_at}
+use Rattle.linear_laws.specs.Vectors.{IsVector, IsMatrix, plus_scaled, combination, InSpan, IsIndependent}
 use Rattle.linear_laws.proofs.Span.{combination-vector, span_rows, span_all_more, zeros_plus}
 use Rattle.linear_laws.proofs.Dimension.{in_span_or_not, no_more}
 use Rattle.linear_laws.proofs.Betti.{in_span_trans}

@@ -143,9 +143,6 @@ module _ (k : Ops) (f : IsField k) (m n r : ℕ) (rows after : List (List ℕ)) 
   length_kernel_after : length kernel_rows ≡ length after - r
   length_kernel_after = length-drop r (rights m after) ∙ ap (λ (j : ℕ). j - r) (length-map after (drop m))
 
-  pub length_kernel : length kernel_rows + r ≡ n
-  length_kernel = let l : length kernel_rows ≡ length after - r = length_kernel_after in let e : length after ≡ n = long_after in let b : r ≤ length after = few_rows in omega arith
-
   pub kernel_matrix : IsMatrix k n kernel_rows
   kernel_matrix = all_drop (IsVector k n) r (rights m after) (right_matrix k f m n after h.matrix)
 

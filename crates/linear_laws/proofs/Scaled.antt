@@ -1,7 +1,6 @@
 use Rattle.std.proofs.Common.{◌≡◌, ◌≢◌, ℕ, zero, suc, ◌<◌, List, [], ◌∷◌, length, length-set, map, replicate, get_or, get_or-set_same, set, refl, ap, sym, ◌∙◌, arith, subst, ◌⊎◌, inl, inr}
-use Rattle.std.specs.List.{AllByRecursion, SwappedAt}
-use Rattle.std.proofs.lemmas.List.{get_or_default, set-set, set-get_or}
-use Rattle.std.proofs.lemmas.List.Elements.{All-from_recursion, recursion_from_All}
+use Rattle.std.specs.List.{AllByRecursion}
+use Rattle.std.proofs.lemmas.List.{set-set, set-get_or}
 use native.Mathlib.Decide.{dec_lt}
 use Prim.{yes, no}
 use Rattle.small_field.specs.Field.{Ops, IsField}
@@ -17,17 +16,6 @@ pub one_is_not_zero : ◌≡◌ {A = ℕ} 1 0 → ⊥
 one_is_not_zero e = cc
 
 module _ (k : Ops) (f : IsField k) where
-  -- each row of one list is a row of the other
-  all_through : (P : List ℕ → Type 0) (xs ys : List (List ℕ)) → ((i : ℕ) → i < length ys → (j : ℕ) × (j < length xs) × (row_at ys i ≡ row_at xs j)) → AllByRecursion P xs → AllByRecursion P ys
-  all_through P xs ys g h =
-      recursion_from_All P ys
-      (λ i d lt. let m = g i lt in subst P (sym (get_or_default ys i d [] lt ∙ m.2)) (All-from_recursion P xs h m.0 [] m.1))
-
-  pub reordered_span : (n : ℕ) (xs ys : List (List ℕ)) → IsMatrix k n xs → ((i : ℕ) → i < length ys → (j : ℕ) × (j < length xs) × (row_at ys i ≡ row_at xs j)) → ((i : ℕ) → i < length xs → (j : ℕ) × (j < length ys) × (row_at xs i ≡ row_at ys j)) → IsMatrix k n ys × SameSpan k n xs ys
-  reordered_span n xs ys a g h =
-      let b : IsMatrix k n ys = all_through (IsVector k n) xs ys g a in
-      (b, same_span k f n xs ys a b (all_through (InSpan k n ys) ys xs h (span_rows k f n ys b)) (all_through (InSpan k n xs) xs ys g (span_rows k f n xs a)))
-
   -- a row times a factor
   pub scaled_is : (c n : ℕ) (xs : List ℕ) → length xs ≡ n → map (k.mul c) xs ≡ plus_scaled k c (replicate n 0) xs
   scaled_is c zero [] h = refl
@@ -77,26 +65,3 @@ module _ (k : Ops) (f : IsField k) where
       let x_in : InSpan k n (set rows i w) x = subst (InSpan k n (set rows i w)) (scaled_back c x lc ne vx.elements) (span_scaled n (k.inv c) (set rows i w) w b vw.long w_in) in
       let old : AllByRecursion (InSpan k n (set rows i w)) rows = subst (AllByRecursion (InSpan k n (set rows i w))) (set-set rows i w (get_or rows i []) ∙ set-get_or rows i []) (all_set (InSpan k n (set rows i w)) (set rows i w) i x x_in theirs) in
       (b, same_span k f n rows (set rows i w) a b old new)
-
-  -- rows a and b change places
-  pub swapped_from : (xs ys : List (List ℕ)) (a b : ℕ) → a < length xs → b < length xs → length ys ≡ length xs → SwappedAt xs ys a b → (i : ℕ) → i < length ys → (j : ℕ) × (j < length xs) × (row_at ys i ≡ row_at xs j)
-  swapped_from xs ys a b la lb long s i lt =
-      elim (same_or_not i a) [
-        | inl e ↦ (b, lb, ap (row_at ys) e ∙ s.0 [])
-        | inr na ↦
-            elim (same_or_not i b) [
-              | inl e ↦ (a, la, ap (row_at ys) e ∙ s.1 [])
-              | inr nb ↦ (i, omega arith, s.2 i [] na nb)
-            ]
-      ]
-
-  pub swapped_to : (xs ys : List (List ℕ)) (a b : ℕ) → a < length xs → b < length xs → length ys ≡ length xs → SwappedAt xs ys a b → (i : ℕ) → i < length xs → (j : ℕ) × (j < length ys) × (row_at xs i ≡ row_at ys j)
-  swapped_to xs ys a b la lb long s i lt =
-      elim (same_or_not i a) [
-        | inl e ↦ (b, omega arith, ap (row_at xs) e ∙ sym (s.1 []))
-        | inr na ↦
-            elim (same_or_not i b) [
-              | inl e ↦ (a, omega arith, ap (row_at xs) e ∙ sym (s.0 []))
-              | inr nb ↦ (i, omega arith, sym (s.2 i [] na nb))
-            ]
-      ]

@@ -1,5 +1,5 @@
--- Meaning for contracts: Vectors, Echelon, Betti, Linear, Triangle, Laws. What the code above keeps for itself: Marks (unit
--- vectors and rows side by side), and TriangleOver of Triangle.
+-- Meaning for contracts: Vectors, Echelon, Betti, Linear, Triangle, Laws, and `mark` of Marks. What the code of matrices keeps
+-- for itself: the rest of Marks, unit vectors and rows side by side.
 pub mod Vectors
 pub mod Echelon
 pub mod Triangle

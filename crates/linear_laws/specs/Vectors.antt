@@ -15,8 +15,7 @@
 --   SameSpan k n rows others           what is a combination of the rows is one of the others, and back
 --   IsIndependent k n vs               only the zero coefficients give the zero vector
 --   IsBasis k n rows basis             independent vectors with the span of the rows
---   IsRelated k n vs                   some coefficients, not all zero, give the zero vector
---   IsDependent k n rows               the same, said at each of the n coordinates
+--   IsDependent k n rows               a combination of the rows, not all of its coefficients zero, is zero at each of n coordinates
 --   IsInKernel k m rows x              x are coefficients of the rows that give zero
 --   IsKernelBasis k m rows zs          zs is a basis of all such coefficients
 --   IsHistory k n rows after history   independent coefficients that give each of the rows `after` as a combination of `rows`
@@ -81,12 +80,6 @@ pub record IsBasis (k : Ops) (n : ℕ) (rows basis : List (List ℕ)) : Type 0 w
   pub matrix : IsMatrix k n basis
   pub independent : IsIndependent k n basis
   pub span : SameSpan k n rows basis
-
-pub record IsRelated (k : Ops) (n : ℕ) (vs : List (List ℕ)) : Type 0 where
-  pub coefficients : List ℕ
-  pub vector : IsVector k (length vs) coefficients
-  pub nonzero : IsNonzero coefficients
-  pub zero : combination k n coefficients vs ≡ replicate n 0
 
 pub record IsInKernel (k : Ops) (m : ℕ) (rows : List (List ℕ)) (x : List ℕ) : Type 0 where
   pub vector : IsVector k (length rows) x
