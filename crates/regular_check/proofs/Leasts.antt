@@ -1,13 +1,14 @@
 -- The least vertices of components, and the numbers of components.
 use Rattle.std.proofs.Common.{◌≡◌, ◌↔◌, inl, inr, ℕ, zero, suc, ◌+◌, ◌-◌, ◌<◌, ◌≤◌, List, [], ◌∷◌, Bool, true, false, cond, ◌&&◌, ◌||◌, filter, length, get_or, refl, ap, sym, ◌∙◌, subst, arith}
 use Rattle.std.specs.List.{list_any}
+use Rattle.std.specs.Cmp.{both_ways}
 use Rattle.std.proofs.lemmas.Bool.{eq-eqb, cases_lt}
 use Rattle.std.proofs.lemmas.List.{length-append}
 use Rattle.std.proofs.lemmas.List.Elements.{filter-append}
 use Rattle.std.proofs.lemmas.List.Kept.{IsStrictlyIncreasing-filter}
 use Rattle.number_lists.specs.Words.{upto, holds}
 use Rattle.face_poset.specs.Poset.{count, facets_of}
-use Rattle.number_lists.proofs.CallerLemmas.{upto_more, increasing-upto, filter_same, In-filter, In-inside, filter-In, In-holds, at-In, In-at, same_bool, reaches_is, In-upto, upto-In}
+use Rattle.number_lists.proofs.CallerLemmas.{upto_more, increasing-upto, filter_same, In-filter, In-inside, filter-In, In-holds, at-In, In-at, reaches_is, In-upto, upto-In}
 use Rattle.number_lists.specs.Reach.{Reaches, at_start, on}
 use Rattle.regular_check.specs.Components.{vertices, share_edge, are_joined, least_of, is_least, leasts_upto, component_of, SameComponentIsAPath}
 use Rattle.number_lists.specs.Members.{In}
@@ -82,7 +83,7 @@ module _ (space : List (List (List ℕ))) where
   -- what is joined to one of two joined vertices is joined to the other
   joined_same : (x y z : ℕ) → In x (vertices space) → In z (vertices space) → Reaches (share_edge space) (vertices space) x y → are_joined space z x ≡ are_joined space z y
   joined_same x y z m n p =
-      same_bool (are_joined space z x) (are_joined space z y)
+      both_ways (are_joined space z x) (are_joined space z y)
       (λ e. path_joined z y n (path_on (share_edge space) (vertices space) (joined_path z x n e) p))
       (λ e. path_joined z x n (path_on (share_edge space) (vertices space) (joined_path z y n e) (path_back (share_edge space) (vertices space) shared (In-holds m) p)))
 

@@ -2,6 +2,7 @@
 use Rattle.std.proofs.Common.{◌≡◌, ◌≢◌, ◌⊎◌, inl, inr, ℕ, zero, suc, ◌+◌, ◌<◌, ◌≤◌, List, [], ◌∷◌, ◌++◌, Bool, true, not, cond, eqb, filter, map, length, take, drop, get_or, AllPairs, refl, ap, sym, ◌∙◌, subst, arith}
 use Rattle.std.specs.List.{range_with_len, IsDistinct}
 use Rattle.std.specs.List.Sorted.{IsStrictlyIncreasing}
+use Rattle.std.specs.Cmp.{both_ways}
 use Rattle.std.proofs.lemmas.Bool.{eq-eqb, ne_eqb}
 use Rattle.std.proofs.lemmas.Bool.Decides.{eqb_tells}
 use Rattle.std.proofs.lemmas.List.{same_lists, get_or-map, length-map}
@@ -11,7 +12,7 @@ use Rattle.std.proofs.lemmas.Map.Keys.{IsDistinct-from_apart}
 use Rattle.number_lists.specs.Words.{holds}
 use Rattle.face_poset.specs.Poset.{IsCell, IsSpace, count, facets_of}
 use Rattle.face_poset.specs.Below.{facets_of_all}
-use Rattle.number_lists.proofs.CallerLemmas.{distinct_rising, In-filter, In-inside, filter-In, any-In, any-some, all-In, holds-In, In-holds, In-at, at-In, same_bool, reaches_is, length-inside}
+use Rattle.number_lists.proofs.CallerLemmas.{distinct_rising, In-filter, In-inside, filter-In, any-In, any-some, all-In, holds-In, In-holds, In-at, at-In, reaches_is, length-inside}
 use Rattle.regular_check.specs.declared.cycles.Step.{Step}
 use Rattle.number_lists.specs.Reach.{reaches, Reaches, at_start, on}
 use Rattle.regular_check.specs.Rules.{sharing, meet, each_twice, connected}
@@ -103,7 +104,7 @@ meet_back : (space : List (List (List ℕ))) (a c : ℕ) → meet space 1 a c �
 meet_back space a c t = let s = any-some (λ f. holds (facets_of space 1 c) f) (facets_of space 1 a) t in any-In (λ f. holds (facets_of space 1 a) f) (holds-In (facets_of space 1 c) s.2) (In-holds s.1)
 
 pub meet_same : (space : List (List (List ℕ))) (a c : ℕ) → meet space 1 a c ≡ meet space 1 c a
-meet_same space a c = same_bool (meet space 1 a c) (meet space 1 c a) (meet_back space a c) (meet_back space c a)
+meet_same space a c = both_ways (meet space 1 a c) (meet space 1 c a) (meet_back space a c) (meet_back space c a)
 
 module _ (space : List (List (List ℕ))) (edges : List ℕ) where
   -- ---- where the walk is after so many steps
@@ -381,7 +382,7 @@ module _ (space : List (List (List ℕ))) (edges : List ℕ) where
         goes =
             record {
               edges_are = λ x. ap (λ (xs : List ℕ). holds xs x) edges_made
-                  ∙ same_bool (holds (made (length edges)) x) (holds edges x)
+                  ∙ both_ways (holds (made (length edges)) x) (holds edges x)
                   (λ t. In-holds (made_inside (length edges) x (holds-In (made (length edges)) t)))
                   (λ t. In-holds (subst (λ (n : ℕ). In x (made n)) whole (all_in x (holds-In edges t))));
               edges_once = subst (AllPairs (λ a c. a ≢ c)) (sym edges_made) (made-apart (edge_after v e) (length edges) (λ i j l m. b.fresh.edges_too i j l (omega (arith, whole, m))));

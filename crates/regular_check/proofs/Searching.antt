@@ -1,5 +1,5 @@
 -- The search finds exactly what is connected with the first cell.
-use Rattle.std.proofs.Common.{◌≡◌, ◌⊎◌, inl, inr, ℕ, ◌+◌, ◌-◌, ◌≤◌, List, [], ◌∷◌, Bool, true, ◌&&◌, eqb, map, length, get_or, refl, ap, sym, ◌∙◌, subst, arith}
+use Rattle.std.proofs.Common.{◌≡◌, ◌⊎◌, inl, inr, ℕ, ◌+◌, ◌-◌, ◌≤◌, List, [], ◌∷◌, true, eqb, map, length, get_or, refl, ap, sym, ◌∙◌, subst, arith}
 use Rattle.std.specs.List.{list_all, sum}
 use Rattle.std.proofs.lemmas.Bool.{eqb-true}
 use Rattle.number_lists.specs.Words.{holds}
@@ -10,6 +10,7 @@ use Rattle.regular_check.specs.Rules.{sharing, meet, each_twice, connected}
 use Rattle.regular_check.specs.Tally.{tally_at, IsTally, AreOthers, other}
 use Rattle.number_lists.specs.Members.{In, here, there}
 use Rattle.number_lists.proofs.CallerLemmas.{In-filter, filter-In, In-inside, any-In, any-some, all-In, In-holds, In-at, at-In}
+use Rattle.regular_check.proofs.Tallies.{all_same}
 use Rattle.regular_check.proofs.Cells.{facets-cell}
 use Rattle.regular_check.proofs.Spreading.{AreNexts}
 
@@ -126,8 +127,4 @@ module _ (space : List (List (List ℕ))) (dim : ℕ) (cells : List ℕ) (tallie
 
   -- where all cells were found, they are connected
   pub connected_tells : (found : List ℕ) → ((y : ℕ) → holds found y ≡ reaches (meet space dim) cells (get_or cells 0 0) y) → list_all (holds found) cells ≡ connected space dim cells
-  connected_tells found h = list_all_same cells
-    where
-      list_all_same : (ys : List ℕ) → list_all (holds found) ys ≡ list_all (reaches (meet space dim) cells (get_or cells 0 0)) ys
-      list_all_same [] = refl
-      list_all_same (y ∷ ys) = ap (λ (b : Bool). b && list_all (holds found) ys) (h y) ∙ ap (λ (b : Bool). reaches (meet space dim) cells (get_or cells 0 0) y && b) (list_all_same ys)
+  connected_tells found h = all_same (holds found) (reaches (meet space dim) cells (get_or cells 0 0)) cells (λ y m. h y)

@@ -1,12 +1,13 @@
 -- A search from one number by steps inside a list: what was found, of which the first were looked at.
 use Rattle.std.proofs.Common.{◌≡◌, ◌⊎◌, inl, inr, ℕ, ◌+◌, ◌<◌, ◌≤◌, refl, List, [], ◌∷◌, Bool, true, eqb, length, get_or, ap, sym, ◌∙◌, subst, arith, rules}
 use Rattle.std.specs.List.{IsDistinct}
+use Rattle.std.specs.Cmp.{both_ways}
 use Rattle.std.proofs.lemmas.Bool.Decides.{eqb_tells}
 use Rattle.number_lists.specs.Words.{holds}
 use Rattle.number_lists.specs.Reach.{reaches, Reaches, at_start, on}
 use Rattle.number_lists.specs.Found.{inserted_all}
 use Rattle.number_lists.specs.Members.{In, here, there}
-use Rattle.number_lists.proofs.CallerLemmas.{holds-In, In-holds, In-at, at-In, same_bool, reaches_is, AreMore, are_more, length-inside}
+use Rattle.number_lists.proofs.CallerLemmas.{holds-In, In-holds, In-at, at-In, reaches_is, AreMore, are_more, length-inside}
 
 module _ (step : ℕ → ℕ → Bool) (all : List ℕ) where
   -- these are the numbers one step from c; c itself may be left out
@@ -83,6 +84,6 @@ module _ (step : ℕ → ℕ → Bool) (all : List ℕ) where
     pub search_tells : length found ≤ head → IsSearch start head found → (y : ℕ) → holds found y ≡ reaches step all start y
     search_tells l s y =
         let there : holds all start ≡ true = In-holds (s.inside start s.start_in) in
-        same_bool (holds found y) (reaches step all start y)
+        both_ways (holds found y) (reaches step all start y)
         (λ e. (reaches_is step all start y there).1 (s.reached y (holds-In found e)))
         (λ e. In-holds (all_reached l s ((reaches_is step all start y there).0 e)))

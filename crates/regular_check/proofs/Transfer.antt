@@ -2,6 +2,7 @@
 use Rattle.std.proofs.Common.{◌≡◌, ℕ, suc, ◌+◌, ◌-◌, ◌<◌, ◌≤◌, List, [], ◌∷◌, Bool, true, eqb, map, length, get_or, refl, ap, sym, ◌∙◌, subst, arith}
 use Rattle.std.specs.List.{IsDistinct, list_all, list_any}
 use Rattle.std.specs.List.Sorted.{IsStrictlyIncreasing}
+use Rattle.std.specs.Cmp.{both_ways}
 use Rattle.std.proofs.lemmas.Bool.{eqb-true, eq-eqb, ne_eqb, and_from}
 use Rattle.std.proofs.lemmas.List.{length-map, get_or-map}
 use Rattle.std.proofs.lemmas.List.Kept.{IsStrictlyIncreasing-filter, AllPairs-from_increasing}
@@ -9,7 +10,7 @@ use Rattle.std.proofs.lemmas.Map.Keys.{IsDistinct-from_apart}
 use Rattle.number_lists.specs.Words.{upto, holds}
 use Rattle.face_poset.specs.Poset.{IsSpace, count, facets_of}
 use Rattle.face_poset.specs.Below.{facets_of_all}
-use Rattle.number_lists.proofs.CallerLemmas.{distinct_rising, increasing-upto, In-filter, In-inside, filter-In, any-In, any-some, all-In, In-all, holds-In, In-holds, In-at, at-In, same_bool, reaches_is, length-inside}
+use Rattle.number_lists.proofs.CallerLemmas.{distinct_rising, increasing-upto, In-filter, In-inside, filter-In, any-In, any-some, all-In, In-all, holds-In, In-holds, In-at, at-In, reaches_is, length-inside}
 use Rattle.number_lists.specs.Reach.{reaches, Reaches, at_start, on}
 use Rattle.regular_check.specs.Rules.{two_ends, one_cycle, sharing, meet, each_twice, connected, faces_count, is_spherical, IsRegular}
 use Rattle.number_lists.specs.Members.{In, here, there}
@@ -32,7 +33,7 @@ pub record IsCopy (space other : List (List (List ℕ))) (part : ℕ → ℕ →
 
 -- two cells meet in either order
 meet_same : (space : List (List (List ℕ))) (dim a b : ℕ) → meet space dim a b ≡ meet space dim b a
-meet_same space dim a b = same_bool (meet space dim a b) (meet space dim b a) (back a b) (back b a)
+meet_same space dim a b = both_ways (meet space dim a b) (meet space dim b a) (back a b) (back b a)
   where
     back : (x y : ℕ) → meet space dim x y ≡ true → meet space dim y x ≡ true
     back x y t = let s = any-some (λ f. holds (facets_of space dim y) f) (facets_of space dim x) t in any-In (λ f. holds (facets_of space dim x) f) (holds-In (facets_of space dim y) s.2) (In-holds s.1)

@@ -18,54 +18,54 @@
 use Rattle.std.specs.Prelude.{◌≡◌, ◌↔◌, ℕ, ◌≤◌, ◌<◌, ◌==◌, ◌&&◌, List, length, filter, map, slice_index, Bool}
 use Rattle.std.specs.List.{list_any}
 use Rattle.number_lists.specs.Words.{upto, holds}
-use Rattle.face_poset.specs.Poset.{count, facets_of}
+use Rattle.face_poset.specs.Poset.{Layers, count, facets_of}
 use Rattle.number_lists.specs.Reach.{reaches, Reaches}
 
-abbrev pub vertices : List (List (List ℕ)) → List ℕ
+abbrev pub vertices : Layers → List ℕ
 vertices space = upto (count space 0)
 
-abbrev pub share_edge : List (List (List ℕ)) → (x y : ℕ) → Bool
+abbrev pub share_edge : Layers → (x y : ℕ) → Bool
 share_edge space x y = list_any (λ e. holds (facets_of space 1 e) x && holds (facets_of space 1 e) y) (upto (count space 1))
 
-abbrev pub are_joined : List (List (List ℕ)) → (x y : ℕ) → Bool
+abbrev pub are_joined : Layers → (x y : ℕ) → Bool
 are_joined space x y = reaches (share_edge space) (vertices space) x y
 
-abbrev pub least_of : List (List (List ℕ)) → (vertex : ℕ) → ℕ
+abbrev pub least_of : Layers → (vertex : ℕ) → ℕ
 least_of space vertex = slice_index (filter (λ x. are_joined space x vertex) (vertices space)) 0
 
-abbrev pub is_least : List (List (List ℕ)) → (vertex : ℕ) → Bool
+abbrev pub is_least : Layers → (vertex : ℕ) → Bool
 is_least space vertex = least_of space vertex == vertex
 
-abbrev pub leasts_upto : List (List (List ℕ)) → (vertex : ℕ) → ℕ
+abbrev pub leasts_upto : Layers → (vertex : ℕ) → ℕ
 leasts_upto space vertex = length (filter (is_least space) (upto vertex))
 
-abbrev pub component_of : List (List (List ℕ)) → (vertex : ℕ) → ℕ
+abbrev pub component_of : Layers → (vertex : ℕ) → ℕ
 component_of space vertex = leasts_upto space (least_of space vertex)
 
-abbrev pub component_count : List (List (List ℕ)) → ℕ
+abbrev pub component_count : Layers → ℕ
 component_count space = leasts_upto space (count space 0)
 
 pub record Numbering : Type 0 where
   pub count : ℕ
   pub numbers : List ℕ
 
-abbrev pub components_of : List (List (List ℕ)) → Numbering
+abbrev pub components_of : Layers → Numbering
 components_of space = record { count = component_count space; numbers = map (component_of space) (vertices space) }
 
 abbrev pub SameComponentIsAPath : Type 0
 SameComponentIsAPath =
-    (space : List (List (List ℕ))) (x y : ℕ)
+    (space : Layers) (x y : ℕ)
     → 1 ≤ x
     → x ≤ count space 0
     → 1 ≤ y
     → y ≤ count space 0
     → (component_of space x ≡ component_of space y) ↔ Reaches (share_edge space) (vertices space) x y
 
-pub record IsLeastVertex (space : List (List (List ℕ))) (vertex least : ℕ) : Type 0 where
+pub record IsLeastVertex (space : Layers) (vertex least : ℕ) : Type 0 where
   pub there : Reaches (share_edge space) (vertices space) vertex least
   pub low : (x : ℕ) → Reaches (share_edge space) (vertices space) vertex x → least ≤ x
 
-pub record AreNumbers (space : List (List (List ℕ))) : Type 0 where
+pub record AreNumbers (space : Layers) : Type 0 where
   pub within : (x : ℕ) → 1 ≤ x → x ≤ count space 0 → (1 ≤ component_of space x) × (component_of space x ≤ component_count space)
   pub taken : (n : ℕ) → 1 ≤ n → n ≤ component_count space → (x : ℕ) × (1 ≤ x) × (x ≤ count space 0) × (component_of space x ≡ n)
   pub least : (x : ℕ) → 1 ≤ x → x ≤ count space 0 → IsLeastVertex space x (least_of space x)
@@ -78,4 +78,4 @@ pub record AreNumbers (space : List (List (List ℕ))) : Type 0 where
       → (component_of space x < component_of space y) ↔ (least_of space x < least_of space y)
 
 abbrev pub ComponentsAreNumbered : Type 0
-ComponentsAreNumbered = (space : List (List (List ℕ))) → AreNumbers space
+ComponentsAreNumbered = (space : Layers) → AreNumbers space

@@ -22,42 +22,42 @@
 use Rattle.std.specs.Prelude.{◌≡◌, ◌≢◌, ◌↔◌, ℕ, zero, suc, ◌+◌, ◌-◌, ◌≤◌, ◌<◌, ◌==◌, List, [], ◌∷◌, ◌++◌, length, cond, filter, not, map, slice_index, take, drop, AllPairs, Bool, true}
 use Rattle.std.specs.List.{list_all}
 use Rattle.number_lists.specs.Words.{holds}
-use Rattle.face_poset.specs.Poset.{count, facets_of, IsSpace}
+use Rattle.face_poset.specs.Poset.{Layers, count, facets_of, IsSpace}
 use Rattle.face_poset.specs.Below.{facets_of_all}
 use Rattle.regular_check.specs.declared.cycles.Step.{Step}
 use Rattle.regular_check.specs.Rules.{sharing, two_ends, one_cycle, IsRegular}
 
-abbrev pub end_of : List (List (List ℕ)) → Step → ℕ
+abbrev pub end_of : Layers → Step → ℕ
 end_of space step = slice_index (facets_of space 1 step.edge) (cond step.forward 1 0)
 
-abbrev pub start_of : List (List (List ℕ)) → Step → ℕ
+abbrev pub start_of : Layers → Step → ℕ
 start_of space step = slice_index (facets_of space 1 step.edge) (cond step.forward 0 1)
 
-abbrev pub step_from : List (List (List ℕ)) → (vertex edge : ℕ) → Step
+abbrev pub step_from : Layers → (vertex edge : ℕ) → Step
 step_from space vertex edge = record { edge = edge; forward = slice_index (facets_of space 1 edge) 0 == vertex }
 
-abbrev pub edge_at : List (List (List ℕ)) → (edges : List ℕ) → (vertex : ℕ) → ℕ
+abbrev pub edge_at : Layers → (edges : List ℕ) → (vertex : ℕ) → ℕ
 edge_at space edges vertex = slice_index (sharing space 1 edges vertex) 0
 
-abbrev pub other_edge : List (List (List ℕ)) → (edges : List ℕ) → (vertex edge : ℕ) → ℕ
+abbrev pub other_edge : Layers → (edges : List ℕ) → (vertex edge : ℕ) → ℕ
 other_edge space edges vertex edge = slice_index (filter (λ e. not (e == edge)) (sharing space 1 edges vertex)) 0
 
-abbrev pub walk : List (List (List ℕ)) → (edges : List ℕ) → (steps vertex edge : ℕ) → List Step
+abbrev pub walk : Layers → (edges : List ℕ) → (steps vertex edge : ℕ) → List Step
 walk space edges zero vertex edge = []
 walk space edges (suc steps) vertex edge =
     step_from space vertex edge
     ∷ walk space edges steps (end_of space (step_from space vertex edge)) (other_edge space edges (end_of space (step_from space vertex edge)) edge)
 
-abbrev pub least_vertex : List (List (List ℕ)) → (edges : List ℕ) → ℕ
+abbrev pub least_vertex : Layers → (edges : List ℕ) → ℕ
 least_vertex space edges = slice_index (facets_of_all space 0 edges) 0
 
-abbrev pub cycle_along : List (List (List ℕ)) → (edges : List ℕ) → List Step
+abbrev pub cycle_along : Layers → (edges : List ℕ) → List Step
 cycle_along space edges = walk space edges (length edges) (least_vertex space edges) (edge_at space edges (least_vertex space edges))
 
-abbrev pub cycle : List (List (List ℕ)) → (cell : ℕ) → List Step
+abbrev pub cycle : Layers → (cell : ℕ) → List Step
 cycle space cell = cycle_along space (facets_of space 2 cell)
 
-pub record GoesRound (space : List (List (List ℕ))) (edges : List ℕ) (steps : List Step) : Type 0 where
+pub record GoesRound (space : Layers) (edges : List ℕ) (steps : List Step) : Type 0 where
   pub edges_are : (e : ℕ) → holds (map (λ (step : Step). step.edge) steps) e ≡ holds edges e
   pub edges_once : AllPairs (λ a b. a ≢ b) (map (λ (step : Step). step.edge) steps)
   pub closes : map (end_of space) steps ≡ drop 1 (map (start_of space) steps) ++ take 1 (map (start_of space) steps)
@@ -65,31 +65,31 @@ pub record GoesRound (space : List (List (List ℕ))) (edges : List ℕ) (steps 
 
 abbrev pub CyclesGoRound : Type 0
 CyclesGoRound =
-    (space : List (List (List ℕ))) (cell : ℕ) → IsSpace space → IsRegular space → 1 ≤ cell → cell ≤ count space 2 → GoesRound space (facets_of space 2 cell) (cycle space cell)
+    (space : Layers) (cell : ℕ) → IsSpace space → IsRegular space → 1 ≤ cell → cell ≤ count space 2 → GoesRound space (facets_of space 2 cell) (cycle space cell)
 
-abbrev pub edges_have_ends : List (List (List ℕ)) → (cell : ℕ) → Bool
+abbrev pub edges_have_ends : Layers → (cell : ℕ) → Bool
 edges_have_ends space cell = list_all (two_ends space) (facets_of space 2 cell)
 
 abbrev pub OneCycleGoesRound : Type 0
 OneCycleGoesRound =
-    (space : List (List (List ℕ))) (cell : ℕ)
+    (space : Layers) (cell : ℕ)
     → IsSpace space
     → 1 ≤ cell
     → cell ≤ count space 2
     → edges_have_ends space cell ≡ true
     → (one_cycle space cell ≡ true) ↔ ((steps : List Step) × GoesRound space (facets_of space 2 cell) steps)
 
-pub record AreCycles (space : List (List (List ℕ))) (cells : ℕ) (ends : List ℕ) (steps : List Step) : Type 0 where
+pub record AreCycles (space : Layers) (cells : ℕ) (ends : List ℕ) (steps : List Step) : Type 0 where
   pub long : length ends ≡ cells + 1
   pub last : slice_index ends cells ≡ length steps
   pub rise : (c : ℕ) → 1 ≤ c → c ≤ cells → slice_index ends (c - 1) ≤ slice_index ends c
   pub within : (c : ℕ) → c ≤ cells → slice_index ends c ≤ length steps
   pub parts : (c : ℕ) → 1 ≤ c → c ≤ cells → take (slice_index ends c - slice_index ends (c - 1)) (drop (slice_index ends (c - 1)) steps) ≡ cycle space c
 
-abbrev pub HasEnds : List (List (List ℕ)) → (edges : ℕ) → Type 0
+abbrev pub HasEnds : Layers → (edges : ℕ) → Type 0
 HasEnds space edges = (e : ℕ) → 1 ≤ e → e ≤ edges → length (facets_of space 1 e) ≡ 2
 
-pub record IsFirstEdge (space : List (List (List ℕ))) (edges : List ℕ) (upto : ℕ) (edge : ℕ) : Type 0 where
+pub record IsFirstEdge (space : Layers) (edges : List ℕ) (upto : ℕ) (edge : ℕ) : Type 0 where
   pub place : ℕ
   pub within : place < length edges
   pub here : slice_index edges place ≡ edge

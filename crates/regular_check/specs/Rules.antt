@@ -26,37 +26,37 @@ use Rattle.std.specs.Prelude.{◌≡◌, ⊤, ℕ, ◌+◌, ◌&&◌, ◌==◌, 
 use Rattle.std.specs.List.{list_all, list_any, flat_map}
 use Rattle.face_poset.specs.declared.cells.Cell.{Cell}
 use Rattle.number_lists.specs.Words.{upto, holds}
-use Rattle.face_poset.specs.Poset.{count, facets_of}
+use Rattle.face_poset.specs.Poset.{Layers, count, facets_of}
 use Rattle.face_poset.specs.Below.{closed_cell}
 use Rattle.regular_check.specs.declared.fault.RegularFault.{RegularFault}
 use Rattle.regular_check.specs.declared.fault.RegularFault.TheVariants.{EdgeEnds, NotCycle, EdgeNotTwice, Apart, NotSphere, Memory}
 use Rattle.number_lists.specs.Reach.{reaches}
 
-abbrev pub sharing : List (List (List ℕ)) → (dim : ℕ) → (cells : List ℕ) → (facet : ℕ) → List ℕ
+abbrev pub sharing : Layers → (dim : ℕ) → (cells : List ℕ) → (facet : ℕ) → List ℕ
 sharing space dim cells facet = filter (λ c. holds (facets_of space dim c) facet) cells
 
-abbrev pub each_twice : List (List (List ℕ)) → (dim : ℕ) → (cells : List ℕ) → Bool
+abbrev pub each_twice : Layers → (dim : ℕ) → (cells : List ℕ) → Bool
 each_twice space dim cells = list_all (λ c. list_all (λ f. length (sharing space dim cells f) == 2) (facets_of space dim c)) cells
 
-abbrev pub meet : List (List (List ℕ)) → (dim : ℕ) → (a b : ℕ) → Bool
+abbrev pub meet : Layers → (dim : ℕ) → (a b : ℕ) → Bool
 meet space dim a b = list_any (λ f. holds (facets_of space dim b) f) (facets_of space dim a)
 
-abbrev pub connected : List (List (List ℕ)) → (dim : ℕ) → (cells : List ℕ) → Bool
+abbrev pub connected : Layers → (dim : ℕ) → (cells : List ℕ) → Bool
 connected space dim cells = list_all (reaches (meet space dim) cells (slice_index cells 0)) cells
 
-abbrev pub two_ends : List (List (List ℕ)) → (edge : ℕ) → Bool
+abbrev pub two_ends : Layers → (edge : ℕ) → Bool
 two_ends space edge = length (facets_of space 1 edge) == 2
 
-abbrev pub one_cycle : List (List (List ℕ)) → (cell : ℕ) → Bool
+abbrev pub one_cycle : Layers → (cell : ℕ) → Bool
 one_cycle space cell = each_twice space 1 (facets_of space 2 cell) && connected space 1 (facets_of space 2 cell)
 
-abbrev pub faces_count : List (List (List ℕ)) → (cell dim : ℕ) → ℕ
+abbrev pub faces_count : Layers → (cell dim : ℕ) → ℕ
 faces_count space cell dim = length (filter (λ (face : Cell). face.dim == dim) (closed_cell space 3 cell))
 
-abbrev pub boundary_euler : List (List (List ℕ)) → (cell : ℕ) → ℤ
+abbrev pub boundary_euler : Layers → (cell : ℕ) → ℤ
 boundary_euler space cell = (pos (faces_count space cell 0) -ℤ pos (faces_count space cell 1)) +ℤ pos (faces_count space cell 2)
 
-abbrev pub is_spherical : List (List (List ℕ)) → (cell : ℕ) → Bool
+abbrev pub is_spherical : Layers → (cell : ℕ) → Bool
 is_spherical space cell = (faces_count space cell 0 + faces_count space cell 2) == (faces_count space cell 1 + 2)
 
 pub record Rule : Type 0 where
@@ -66,30 +66,30 @@ pub record Rule : Type 0 where
 abbrev pub rule : Bool → RegularFault → Rule
 rule kept fault = record { kept = kept; fault = fault }
 
-abbrev pub edge_rules : List (List (List ℕ)) → (edge : ℕ) → List Rule
+abbrev pub edge_rules : Layers → (edge : ℕ) → List Rule
 edge_rules space edge = rule (two_ends space edge) (EdgeEnds edge) ∷ []
 
-abbrev pub disk_rules : List (List (List ℕ)) → (cell : ℕ) → List Rule
+abbrev pub disk_rules : Layers → (cell : ℕ) → List Rule
 disk_rules space cell = rule (one_cycle space cell) (NotCycle cell) ∷ []
 
-abbrev pub solid_rules : List (List (List ℕ)) → (cell : ℕ) → List Rule
+abbrev pub solid_rules : Layers → (cell : ℕ) → List Rule
 solid_rules space cell =
     rule (each_twice space 2 (facets_of space 3 cell)) (EdgeNotTwice cell)
     ∷ rule (connected space 2 (facets_of space 3 cell)) (Apart cell)
     ∷ rule (is_spherical space cell) (NotSphere cell (boundary_euler space cell))
     ∷ []
 
-abbrev pub all_rules : List (List (List ℕ)) → List Rule
+abbrev pub all_rules : Layers → List Rule
 all_rules space =
     flat_map (edge_rules space) (upto (count space 1)) ++ (flat_map (disk_rules space) (upto (count space 2)) ++ flat_map (solid_rules space) (upto (count space 3)))
 
 abbrev pub fault_in : List Rule → Option RegularFault
 fault_in rules = option_map (λ (r : Rule). r.fault) (find (λ (r : Rule). not r.kept) rules)
 
-abbrev pub first_fault : List (List (List ℕ)) → Option RegularFault
+abbrev pub first_fault : Layers → Option RegularFault
 first_fault space = fault_in (all_rules space)
 
-abbrev pub IsRegular : List (List (List ℕ)) → Type 0
+abbrev pub IsRegular : Layers → Type 0
 IsRegular space = first_fault space ≡ None
 
 abbrev pub IsFault : Option RegularFault → RegularFault → Type 0

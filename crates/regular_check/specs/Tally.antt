@@ -16,6 +16,7 @@
 use Rattle.std.specs.Prelude.{◌≡◌, ℕ, ◌+◌, ◌-◌, ◌<◌, ◌^◌, ◌==◌, ◌≤◌, All, List, length, cond, slice_index_or, Bool}
 use Rattle.std.specs.List.{list_all, sum}
 use Rattle.number_lists.specs.Words.{holds}
+use Rattle.face_poset.specs.Poset.{Layers}
 use Rattle.regular_check.specs.declared.tally.Tally.{Tally}
 use Rattle.regular_check.specs.Rules.{sharing}
 
@@ -46,7 +47,7 @@ IsModest tallies = (k : ℕ) → k < length tallies → ((tally_at tallies k).co
 abbrev pub tally_of : List ℕ → Tally
 tally_of cells = record { count = length cells; sum = sum cells }
 
-abbrev pub IsTally : List (List (List ℕ)) → (dim : ℕ) → (cells : List ℕ) → List Tally → Type 0
+abbrev pub IsTally : Layers → (dim : ℕ) → (cells : List ℕ) → List Tally → Type 0
 IsTally space dim cells tallies = (k : ℕ) → k < length tallies → tally_at tallies k ≡ tally_of (sharing space dim cells (k + 1))
 
 abbrev pub all_double : List Tally → (facets : List ℕ) → Bool

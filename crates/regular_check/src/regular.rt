@@ -22,12 +22,11 @@ pub struct Regular<'a> {
 }
 
 impl<'a> Model for Regular<'a> {
-    ghost use Rattle.std.specs.Prelude.{List, ℕ};
-    ghost use Rattle.face_poset.specs.Poset.{count};
+    ghost use Rattle.face_poset.specs.Poset.{Layers, count};
     ghost use Rattle.regular_check.specs.Rules.{IsRegular};
     ghost use Rattle.regular_check.specs.Cycle.{AreCycles};
 
-    ghost Value = { List (List (List ℕ)) };
+    ghost Value = { Layers };
 
     ghost view = { λ r. r.space.now };
 
