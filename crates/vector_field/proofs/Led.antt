@@ -1,5 +1,6 @@
 -- The search finds exactly what leads to a cell.
 use Rattle.std.proofs.Common.{◌≡◌, ◌≢◌, ◌⊎◌, inl, inr, ℕ, ◌+◌, ◌<◌, ◌≤◌, List, [], ◌∷◌, ◌++◌, true, not, eqb, length, get_or, refl, ap, sym, ◌∙◌, subst, arith}
+use Rattle.std.specs.Cmp.{both_ways}
 use Rattle.std.proofs.lemmas.Bool.{eqb-false, not-true, cases_lt, false≢true}
 use Rattle.face_poset.specs.declared.cells.Pair.{Pair}
 use Rattle.number_lists.specs.Words.{holds}
@@ -8,7 +9,7 @@ use Rattle.vector_field.specs.Pairs.{pair, is_incident, others}
 use Rattle.vector_field.specs.Paths.{Leads, arrived, along, leads_to}
 use Rattle.vector_field.specs.Searches.{IsLed, IsStep, HasSteps}
 use Rattle.number_lists.specs.Members.{In, here}
-use Rattle.number_lists.proofs.CallerLemmas.{In-cases, filter-In, In-inside, In-holds, holds-In, In-left, In-last, push-In, at-In, same_bool, In-at, IsMore}
+use Rattle.number_lists.proofs.CallerLemmas.{In-cases, filter-In, In-inside, In-holds, holds-In, In-left, In-last, push-In, at-In, In-at, IsMore}
 use Rattle.vector_field.proofs.Paths.{other-In, leads-sound, leads-complete}
 use Rattle.vector_field.proofs.MaximalTest.{incident-true, cofaces-In, In-cofaces}
 
@@ -135,4 +136,4 @@ module _ (space : List (List (List ℕ))) (pairs : List Pair) (dim last : ℕ) w
 
     pub search_tells : (head : ℕ) (found : List ℕ) → length found ≤ head → IsSearch head found → IsLed space pairs dim last found
     search_tells head found l s f =
-        same_bool (holds found f) (leads_to space pairs dim last f) (λ e. leads-complete space pairs dim last f (s.leads f e)) (λ e. found_all head found l s (leads-sound space pairs dim last f e))
+        both_ways (holds found f) (leads_to space pairs dim last f) (λ e. leads-complete space pairs dim last f (s.leads f e)) (λ e. found_all head found l s (leads-sound space pairs dim last f e))

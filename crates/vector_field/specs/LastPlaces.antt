@@ -4,7 +4,7 @@
 --   AreLast space pairs first last               so it is for all cells that can be a lower
 use Rattle.std.specs.Prelude.{◌≡◌, ℕ, ◌<◌, ◌≤◌, List, true, false, slice_index_or, Option, MatchOption}
 use Rattle.face_poset.specs.declared.cells.Pair.{Pair}
-use Rattle.face_poset.specs.Poset.{count}
+use Rattle.face_poset.specs.Poset.{Layers, count}
 use Rattle.vector_field.specs.CellMaps.{at}
 use Rattle.vector_field.specs.Pairs.{pair, has_lower}
 
@@ -17,5 +17,5 @@ IsLastPlace pairs first dim cell place =
     ((k : ℕ) → k < first → has_lower dim cell (pair_at pairs k) ≡ false)
     (λ i. (i < first) × (has_lower dim cell (pair_at pairs i) ≡ true) × ((k : ℕ) → i < k → k < first → has_lower dim cell (pair_at pairs k) ≡ false))
 
-abbrev pub AreLast : List (List (List ℕ)) → List Pair → (first : ℕ) → List (List (Option ℕ)) → Type 0
+abbrev pub AreLast : Layers → List Pair → (first : ℕ) → List (List (Option ℕ)) → Type 0
 AreLast space pairs first last = (dim cell : ℕ) → dim < 3 → 1 ≤ cell → cell ≤ count space dim → IsLastPlace pairs first dim cell (at last dim cell)

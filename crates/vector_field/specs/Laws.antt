@@ -6,20 +6,21 @@
 --                              pair of which it holds of the other facets of the upper, holds of all lowers
 use Rattle.std.specs.Prelude.{◌≡◌, ℕ, ◌+◌, List, Bool, true, false}
 use Rattle.number_lists.specs.Members.{In}
+use Rattle.face_poset.specs.Poset.{Layers}
 use Rattle.face_poset.specs.declared.cells.Pair.{Pair}
 use Rattle.vector_field.specs.Pairs.{has_lower, is_used, is_incident, others, IsValid}
 use Rattle.vector_field.specs.Paths.{Leads}
 use Rattle.vector_field.specs.Maximal.{IsMaximal}
 use Rattle.std.specs.List.{list_any}
 
-pub record IsClosed (space : List (List (List ℕ))) (pairs : List Pair) (p : Pair) : Type 0 where
+pub record IsClosed (space : Layers) (pairs : List Pair) (p : Pair) : Type 0 where
   pub first : ℕ
   pub other : In first (others space p)
   pub leads : Leads space pairs p.dim p.lower first
 
 abbrev pub AddedPairCloses : Type 0
 AddedPairCloses =
-    (space : List (List (List ℕ))) (pairs : List Pair) (p : Pair)
+    (space : Layers) (pairs : List Pair) (p : Pair)
     → IsMaximal space pairs
     → is_incident space p ≡ true
     → is_used pairs p.dim p.lower ≡ false
@@ -27,11 +28,11 @@ AddedPairCloses =
     → IsClosed space pairs p
 
 abbrev pub ValidClosesNone : Type 0
-ValidClosesNone = (space : List (List (List ℕ))) (pairs : List Pair) (p : Pair) → IsValid space pairs → In p pairs → IsClosed space pairs p → ⊥
+ValidClosesNone = (space : Layers) (pairs : List Pair) (p : Pair) → IsValid space pairs → In p pairs → IsClosed space pairs p → ⊥
 
 abbrev pub SubstitutionEnds : Type 0
 SubstitutionEnds =
-    (space : List (List (List ℕ))) (pairs : List Pair) (dim : ℕ) (known : ℕ → Bool)
+    (space : Layers) (pairs : List Pair) (dim : ℕ) (known : ℕ → Bool)
     → IsValid space pairs
     → ((p : Pair) (f : ℕ) → In p pairs → p.dim ≡ dim → In f (others space p) → list_any (has_lower dim f) pairs ≡ false → known f ≡ true)
     → ((p : Pair) → In p pairs → p.dim ≡ dim → ((f : ℕ) → In f (others space p) → known f ≡ true) → known p.lower ≡ true)

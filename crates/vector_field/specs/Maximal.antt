@@ -10,11 +10,11 @@
 use Rattle.std.specs.Prelude.{◌≡◌, ◌↔◌, ℕ, ◌+◌, ◌&&◌, ◌||◌, List, length, Bool, true, false}
 use Rattle.std.specs.List.{list_all}
 use Rattle.face_poset.specs.declared.cells.Pair.{Pair}
-use Rattle.face_poset.specs.Poset.{count, cofaces_of}
+use Rattle.face_poset.specs.Poset.{Layers, count, cofaces_of}
 use Rattle.vector_field.specs.Pairs.{pair, is_used, is_incident, unpaired, IsValid}
 use Rattle.vector_field.specs.Paths.{GradientPath, has_path}
 
-abbrev pub IsMaximal : List (List (List ℕ)) → List Pair → Type 0
+abbrev pub IsMaximal : Layers → List Pair → Type 0
 IsMaximal space pairs =
     (dim lower upper : ℕ)
     → is_incident space (pair dim lower upper) ≡ true
@@ -22,19 +22,19 @@ IsMaximal space pairs =
     → is_used pairs (dim + 1) upper ≡ false
     → GradientPath space pairs dim upper lower
 
-pub record IsGood (space : List (List (List ℕ))) (pairs : List Pair) : Type 0 where
+pub record IsGood (space : Layers) (pairs : List Pair) : Type 0 where
   pub valid : IsValid space pairs
   pub maximal : IsMaximal space pairs
   pub vertex : length (unpaired pairs 0 (count space 0)) ≡ 1
 
-abbrev pub is_settled : List (List (List ℕ)) → List Pair → (dim lower upper : ℕ) → Bool
+abbrev pub is_settled : Layers → List Pair → (dim lower upper : ℕ) → Bool
 is_settled space pairs dim lower upper = is_used pairs (dim + 1) upper || has_path space pairs dim upper lower
 
-abbrev pub is_maximal_at : List (List (List ℕ)) → List Pair → (dim : ℕ) → Bool
+abbrev pub is_maximal_at : Layers → List Pair → (dim : ℕ) → Bool
 is_maximal_at space pairs dim = list_all (λ lower. list_all (is_settled space pairs dim lower) (cofaces_of space dim lower)) (unpaired pairs dim (count space dim))
 
-abbrev pub is_maximal : List (List (List ℕ)) → List Pair → Bool
+abbrev pub is_maximal : Layers → List Pair → Bool
 is_maximal space pairs = is_maximal_at space pairs 0 && (is_maximal_at space pairs 1 && is_maximal_at space pairs 2)
 
 abbrev pub MaximalIsExact : Type 0
-MaximalIsExact = (space : List (List (List ℕ))) (pairs : List Pair) → (is_maximal space pairs ≡ true) ↔ IsMaximal space pairs
+MaximalIsExact = (space : Layers) (pairs : List Pair) → (is_maximal space pairs ≡ true) ↔ IsMaximal space pairs

@@ -10,6 +10,7 @@
 --   HasCells counts p                the cells of a pair are there
 use Rattle.std.specs.Prelude.{◌≡◌, ℕ, ◌+◌, ◌≤◌, ◌<◌, ◌&&◌, ◌==◌, List, ◌∷◌, ◌++◌, length, map, filter, not, Bool, slice_index, true, Option, Some, None}
 use Rattle.number_lists.specs.Members.{In}
+use Rattle.face_poset.specs.Poset.{Layers}
 use Rattle.face_poset.specs.declared.cells.Pair.{Pair}
 use Rattle.number_lists.specs.Words.{holds}
 use Rattle.vector_field.specs.CellMaps.{at}
@@ -34,7 +35,7 @@ pub record IsNoted (pairs : List Pair) (uppers lowers : List (List (Option ℕ))
   pub lower_all : (p : Pair) → In p pairs → at lowers (p.dim + 1) p.upper ≡ None → ⊥
   pub bottom : (n : ℕ) → 1 ≤ n → at lowers 0 n ≡ None
 
-pub record IsPairing (space : List (List (List ℕ))) (field : Field) : Type 0 where
+pub record IsPairing (space : Layers) (field : Field) : Type 0 where
   pub counts : field.counts ≡ counts_of space
   pub incident : (p : Pair) → In p field.pairs → is_incident space p ≡ true
   pub one_lower : (p q : Pair) → In p field.pairs → In q field.pairs → p.dim ≡ q.dim → p.upper ≡ q.upper → p ≡ q

@@ -24,7 +24,7 @@ use Rattle.std.specs.List.{list_all, list_any}
 use Rattle.number_lists.specs.Members.{In}
 use Rattle.face_poset.specs.declared.cells.Pair.{Pair}
 use Rattle.number_lists.specs.Words.{upto, holds}
-use Rattle.face_poset.specs.Poset.{count, facets_of}
+use Rattle.face_poset.specs.Poset.{Layers, count, facets_of}
 use Rattle.vector_field.specs.declared.fault.PairFault.{PairFault}
 use Rattle.vector_field.specs.declared.fault.PairFault.TheVariants.{Bad, Memory}
 use Rattle.vector_field.specs.declared.partner.Partner.{Partner}
@@ -42,7 +42,7 @@ uses dim cell p = has_lower dim cell p || ((p.dim + 1 == dim) && (p.upper == cel
 abbrev pub is_used : List Pair → (dim cell : ℕ) → Bool
 is_used pairs dim cell = list_any (uses dim cell) pairs
 
-abbrev pub is_incident : List (List (List ℕ)) → Pair → Bool
+abbrev pub is_incident : Layers → Pair → Bool
 is_incident space p =
     nat_lt p.dim 3
     && (nat_le 1 p.lower
@@ -51,27 +51,27 @@ is_incident space p =
     && (nat_le p.upper (count space (p.dim + 1))
     && holds (facets_of space (p.dim + 1) p.upper) p.lower))))
 
-abbrev pub others : List (List (List ℕ)) → Pair → List ℕ
+abbrev pub others : Layers → Pair → List ℕ
 others space p = filter (λ f. not (f == p.lower)) (facets_of space (p.dim + 1) p.upper)
 
-abbrev pub comes_before : List (List (List ℕ)) → Pair → List Pair → Bool
+abbrev pub comes_before : Layers → Pair → List Pair → Bool
 comes_before space p later = list_all (λ f. not (list_any (has_lower p.dim f) later)) (others space p)
 
-abbrev pub fits : List (List (List ℕ)) → (earlier : List Pair) → Pair → (later : List Pair) → Bool
+abbrev pub fits : Layers → (earlier : List Pair) → Pair → (later : List Pair) → Bool
 fits space earlier p later =
     is_incident space p
     && (not (is_used earlier p.dim p.lower)
     && (not (is_used earlier (p.dim + 1) p.upper)
     && comes_before space p later))
 
-abbrev pub bad_from : List (List (List ℕ)) → (earlier : List Pair) → (index : ℕ) → List Pair → Option ℕ
+abbrev pub bad_from : Layers → (earlier : List Pair) → (index : ℕ) → List Pair → Option ℕ
 bad_from space earlier index [] = None
 bad_from space earlier index (p ∷ ps) = cond (fits space earlier p ps) (bad_from space (earlier ++ p ∷ []) (suc index) ps) (Some index)
 
-abbrev pub first_bad : List (List (List ℕ)) → List Pair → Option ℕ
+abbrev pub first_bad : Layers → List Pair → Option ℕ
 first_bad space pairs = bad_from space [] 0 pairs
 
-abbrev pub IsValid : List (List (List ℕ)) → List Pair → Type 0
+abbrev pub IsValid : Layers → List Pair → Type 0
 IsValid space pairs = first_bad space pairs ≡ None
 
 abbrev pub IsFault : Option ℕ → PairFault → Type 0
@@ -82,10 +82,10 @@ pub record Field : Type 0 where
   pub pairs : List Pair
   pub counts : List ℕ
 
-abbrev pub counts_of : List (List (List ℕ)) → List ℕ
+abbrev pub counts_of : Layers → List ℕ
 counts_of space = map (count space) (0 ∷ 1 ∷ 2 ∷ 3 ∷ [])
 
-pub record IsFieldOf (space : List (List (List ℕ))) (field : Field) : Type 0 where
+pub record IsFieldOf (space : Layers) (field : Field) : Type 0 where
   pub counts : field.counts ≡ counts_of space
   pub valid : IsValid space field.pairs
 

@@ -14,31 +14,31 @@ use Rattle.std.specs.List.{list_any}
 use Rattle.number_lists.specs.Members.{In}
 use Rattle.face_poset.specs.declared.cells.Pair.{Pair}
 use Rattle.number_lists.specs.Words.{holds}
-use Rattle.face_poset.specs.Poset.{facets_of}
+use Rattle.face_poset.specs.Poset.{Layers, facets_of}
 use Rattle.number_lists.specs.Reach.{reaches}
 use Rattle.vector_field.specs.Pairs.{has_lower, others}
 
-pub data Leads (space : List (List (List ℕ))) (pairs : List Pair) (dim last : ℕ) : ℕ → Type 0 where
+pub data Leads (space : Layers) (pairs : List Pair) (dim last : ℕ) : ℕ → Type 0 where
   arrived : Leads space pairs dim last last
   along : {next : ℕ} (p : Pair) → In p pairs → p.dim ≡ dim → In next (others space p) → Leads space pairs dim last next → Leads space pairs dim last p.lower
 
-pub record GradientPath (space : List (List (List ℕ))) (pairs : List Pair) (dim upper lower : ℕ) : Type 0 where
+pub record GradientPath (space : Layers) (pairs : List Pair) (dim upper lower : ℕ) : Type 0 where
   pub first : ℕ
   pub facet : In first (facets_of space (dim + 1) upper)
   pub other : first ≢ lower
   pub leads : Leads space pairs dim lower first
 
-abbrev pub leads_step : List (List (List ℕ)) → List Pair → (dim next cell : ℕ) → Bool
+abbrev pub leads_step : Layers → List Pair → (dim next cell : ℕ) → Bool
 leads_step space pairs dim next cell = list_any (λ (p : Pair). has_lower dim cell p && holds (others space p) next) pairs
 
 abbrev pub lowers_of : List Pair → (dim : ℕ) → List ℕ
 lowers_of pairs dim = map (λ (p : Pair). p.lower) (filter (λ (p : Pair). p.dim == dim) pairs)
 
-abbrev pub leads_to : List (List (List ℕ)) → List Pair → (dim last facet : ℕ) → Bool
+abbrev pub leads_to : Layers → List Pair → (dim last facet : ℕ) → Bool
 leads_to space pairs dim last facet = reaches (leads_step space pairs dim) (last ∷ lowers_of pairs dim) last facet
 
-abbrev pub has_path : List (List (List ℕ)) → List Pair → (dim upper lower : ℕ) → Bool
+abbrev pub has_path : Layers → List Pair → (dim upper lower : ℕ) → Bool
 has_path space pairs dim upper lower = list_any (λ f. not (f == lower) && leads_to space pairs dim lower f) (facets_of space (dim + 1) upper)
 
 abbrev pub PathIsExact : Type 0
-PathIsExact = (space : List (List (List ℕ))) (pairs : List Pair) (dim upper lower : ℕ) → (has_path space pairs dim upper lower ≡ true) ↔ GradientPath space pairs dim upper lower
+PathIsExact = (space : Layers) (pairs : List Pair) (dim upper lower : ℕ) → (has_path space pairs dim upper lower ≡ true) ↔ GradientPath space pairs dim upper lower

@@ -9,20 +9,20 @@ use Rattle.std.specs.List.{list_any}
 use Rattle.number_lists.specs.Members.{In}
 use Rattle.face_poset.specs.declared.cells.Pair.{Pair}
 use Rattle.number_lists.specs.Words.{holds}
-use Rattle.face_poset.specs.Poset.{cofaces_of}
+use Rattle.face_poset.specs.Poset.{Layers, cofaces_of}
 use Rattle.vector_field.specs.Pairs.{pair, is_used}
 use Rattle.vector_field.specs.Paths.{leads_to, has_path}
 
-abbrev pub IsLed : List (List (List ℕ)) → List Pair → (dim last : ℕ) → (found : List ℕ) → Type 0
+abbrev pub IsLed : Layers → List Pair → (dim last : ℕ) → (found : List ℕ) → Type 0
 IsLed space pairs dim last found = (f : ℕ) → holds found f ≡ leads_to space pairs dim last f
 
-pub record IsStep (space : List (List (List ℕ))) (pairs : List Pair) (dim facet lower : ℕ) : Type 0 where
+pub record IsStep (space : Layers) (pairs : List Pair) (dim facet lower : ℕ) : Type 0 where
   pub upper : ℕ
   pub coface : holds (cofaces_of space dim facet) upper ≡ true
   pub paired : In (pair dim lower upper) pairs
   pub other : lower ≢ facet
 
-pub record HasSteps (space : List (List (List ℕ))) (pairs : List Pair) (dim facet : ℕ) (old new : List ℕ) : Type 0 where
+pub record HasSteps (space : Layers) (pairs : List Pair) (dim facet : ℕ) (old new : List ℕ) : Type 0 where
   pub long : length old ≤ length new
   pub begins : (k : ℕ) → k < length old → slice_index_or new k 0 ≡ slice_index_or old k 0
   pub kept : (lower : ℕ) → holds old lower ≡ true → holds new lower ≡ true
@@ -32,7 +32,7 @@ pub record HasSteps (space : List (List (List ℕ))) (pairs : List Pair) (dim fa
 abbrev pub reaches_found : (found : List ℕ) → (lower : ℕ) → (facets : List ℕ) → Bool
 reaches_found found lower facets = list_any (λ f. not (f == lower) && holds found f) facets
 
-pub record IsOpen (space : List (List (List ℕ))) (pairs : List Pair) (dim lower upper : ℕ) (found : List ℕ) : Type 0 where
+pub record IsOpen (space : Layers) (pairs : List Pair) (dim lower upper : ℕ) (found : List ℕ) : Type 0 where
   pub coface : holds (cofaces_of space dim lower) upper ≡ true
   pub free : is_used pairs (dim + 1) upper ≡ false
   pub pathless : has_path space pairs dim upper lower ≡ false

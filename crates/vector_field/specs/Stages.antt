@@ -11,11 +11,11 @@ use Rattle.std.specs.List.{list_all}
 use Rattle.number_lists.specs.Members.{In}
 use Rattle.face_poset.specs.declared.cells.Pair.{Pair}
 use Rattle.number_lists.specs.Words.{holds}
-use Rattle.face_poset.specs.Poset.{cofaces_of}
+use Rattle.face_poset.specs.Poset.{Layers, cofaces_of}
 use Rattle.vector_field.specs.Pairs.{Field, counts_of, is_used, IsValid}
 use Rattle.vector_field.specs.Maximal.{is_settled}
 
-pub record IsAbove (space : List (List (List ℕ))) (dim : ℕ) (field : Field) : Type 0 where
+pub record IsAbove (space : Layers) (dim : ℕ) (field : Field) : Type 0 where
   pub counts : field.counts ≡ counts_of space
   pub valid : IsValid space field.pairs
   pub above : (p : Pair) → In p field.pairs → dim ≤ p.dim
@@ -23,7 +23,7 @@ pub record IsAbove (space : List (List (List ℕ))) (dim : ℕ) (field : Field) 
 abbrev pub Keeps : (old new : List Pair) → Type 0
 Keeps old new = (p : Pair) → In p old → In p new
 
-abbrev pub AreSettled : List (List (List ℕ)) → List Pair → (dim first : ℕ) → Type 0
+abbrev pub AreSettled : Layers → List Pair → (dim first : ℕ) → Type 0
 AreSettled space pairs dim first = (lower : ℕ) → 1 ≤ lower → lower ≤ first → (is_used pairs dim lower || list_all (is_settled space pairs dim lower) (cofaces_of space dim lower)) ≡ true
 
 pub record Left : Type 0 where
