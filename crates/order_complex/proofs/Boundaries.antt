@@ -1,21 +1,20 @@
 -- The boundary of one chain, and the boundary of a boundary.
-use Rattle.std.proofs.Common.{◌≡◌, ℕ, suc, ◌-◌, ◌<◌, List, [], ◌∷◌, Bool, true, false, cond, map, length, replicate, get_or, refl, ap, sym, ◌∙◌, arith}
+use Rattle.std.proofs.Common.{◌≡◌, ℕ, suc, ◌<◌, List, [], ◌∷◌, Bool, true, false, cond, map, length, replicate, get_or, refl, ap, sym, ◌∙◌, arith}
 use Rattle.std.specs.Str.{bytes_eq}
 use Rattle.std.proofs.lemmas.List.{length-map, get_or-map, get_or_default, same_lists}
 use Rattle.std.proofs.lemmas.Simd.{length-replicate, get_or-replicate, get_or-zip2}
 use Rattle.small_field.specs.Field.{Ops, IsField}
-use Rattle.small_field.proofs.CallerLemmas.{zero_below, neg_mul}
-use Rattle.linear_laws.specs.Vectors.{dot, plus_scaled, IsVector}
-use Rattle.small_field.specs.Values.{AreElements}
+use Rattle.small_field.proofs.CallerLemmas.{neg_mul}
+use Rattle.linear_laws.specs.Vectors.{dot, IsVector}
 use Rattle.linear_laws.proofs.CallerLemmas.{plus_scaled-long, zeros_dot, dot_unit}
+use Rattle.number_lists.specs.Members.{In}
 use Rattle.order_complex.specs.Chains.{chains_of}
-use Rattle.order_complex.specs.Cochains.{alternating, alternating_rows, leave_out, value, mark, coboundary_at, coboundary_on, boundary_on, boundary, zeros, IsCochain}
-use Rattle.order_complex.proofs.Members.{Member}
+use Rattle.order_complex.specs.Cochains.{alternating, alternating_rows, leave_out, value, mark, coboundary_at, coboundary_on, boundary, zeros, IsCochain}
 use Rattle.order_complex.proofs.Alternating.{alternating_below}
 use Rattle.order_complex.proofs.Chained.{leave_out-member}
 use Rattle.order_complex.proofs.Classes.{coboundary_on-vector}
-use Rattle.order_complex.proofs.Evaluation.{mark-vector, evaluation-coboundary}
-use Rattle.order_complex.proofs.Graded.{placed, member-at}
+use Rattle.order_complex.proofs.Evaluation.{evaluation-coboundary}
+use Rattle.order_complex.proofs.Graded.{placed}
 use Rattle.order_complex.proofs.Ordered.{ordered-chains_of, ordered-differ}
 use Rattle.order_complex.proofs.Twice.{bytes_eq-refl, bytes_eq-true, value-map, map-members, coboundary-coboundary}
 
@@ -64,7 +63,7 @@ module _ (F : Ops) (L : IsField F) where
 
   module _ (space : List (List (List ℕ))) where
     -- the boundary of one chain
-    pub boundary-mark : (degree : ℕ) (chain : List ℕ) → Member chain (chains_of space (suc degree))
+    pub boundary-mark : (degree : ℕ) (chain : List ℕ) → In chain (chains_of space (suc degree))
         → boundary F space degree (mark (chains_of space (suc degree)) chain) ≡ alternating_rows F (length (chains_of space degree)) (map (mark (chains_of space degree)) (leave_out chain))
     boundary-mark degree chain m =
         same_lists (boundary F space degree (mark next chain)) (alternating_rows F n (map (mark chains) (leave_out chain)))

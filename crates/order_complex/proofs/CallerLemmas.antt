@@ -21,5 +21,5 @@ pub use Rattle.order_complex.proofs.Bases.{length-rows_of}
 pub use Rattle.order_complex.proofs.Bases.{composition_is_zero, basis_of}
 -- ---- lists
 
-pub use Rattle.order_complex.proofs.Graded.{member-at}
+-- a number is in a reversed list exactly where it is in the list
 pub use Rattle.order_complex.proofs.Cancel.{holds-reverse}

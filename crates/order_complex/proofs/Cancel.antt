@@ -8,13 +8,14 @@ use Rattle.std.proofs.lemmas.List.{reverse-append, length-map, get_or-map}
 use Rattle.face_poset.specs.Words.{holds}
 use Rattle.face_poset.specs.Poset.{count, facets_of}
 use Rattle.face_poset.specs.Signs.{sign_of, sum_to, SignsCancel}
+use Rattle.number_lists.specs.Members.{In, here, there}
+use Rattle.number_lists.proofs.CallerLemmas.{In-cases, at-In}
 use Rattle.order_complex.specs.Chains.{chains_of}
 use Rattle.order_complex.specs.Cochains.{leave_out}
 use Rattle.order_complex.specs.Complex.{number_or_zero, facet_numbers, facet_lists, complex_of, stands_odd, negative_in}
-use Rattle.order_complex.proofs.Members.{Member}
 use Rattle.order_complex.proofs.Chained.{leave_out-member}
 use Rattle.order_complex.proofs.Ordered.{ordered-chains_of}
-use Rattle.order_complex.proofs.Graded.{Falls, numbers-fall, placed, member-at}
+use Rattle.order_complex.proofs.Graded.{Falls, numbers-fall, placed}
 use Rattle.order_complex.proofs.Integers.{alternating_sum, twice_around}
 
 -- ---- sums
@@ -42,16 +43,16 @@ total-reverse f (x ∷ xs) =
     ap (λ ys. total (map f ys)) (reverse-cons x xs) ∙ ap total (map-append f (reverse xs) (x ∷ [])) ∙ total-append (map f (reverse xs)) (f x ∷ [])
     ∙ ap (λ n. total (map f (reverse xs)) +ℤ n) (+ℤ_idr (f x)) ∙ ap (λ n. n +ℤ f x) (total-reverse f xs) ∙ +ℤ_comm (total (map f xs)) (f x)
 
-total-neg : (g h : List ℕ → ℤ) (bs : List (List ℕ)) → ((b : List ℕ) → Member b bs → g b ≡ neg_ℤ (h b)) → total (map g bs) ≡ neg_ℤ (total (map h bs))
+total-neg : (g h : List ℕ → ℤ) (bs : List (List ℕ)) → ((b : List ℕ) → In b bs → g b ≡ neg_ℤ (h b)) → total (map g bs) ≡ neg_ℤ (total (map h bs))
 unfolding total
 total-neg g h [] e = refl
 total-neg g h (b ∷ bs) e =
-    ap (λ n. n +ℤ total (map g bs)) (e b (inl refl)) ∙ ap (λ n. neg_ℤ (h b) +ℤ n) (total-neg g h bs (λ x m. e x (inr m))) ∙ sym (neg_ℤ-+ℤ (h b) (total (map h bs)))
+    ap (λ n. n +ℤ total (map g bs)) (e b here) ∙ ap (λ n. neg_ℤ (h b) +ℤ n) (total-neg g h bs (λ x m. e x (there m))) ∙ sym (neg_ℤ-+ℤ (h b) (total (map h bs)))
 
-total-members : (g h : List ℕ → ℤ) (bs : List (List ℕ)) → ((b : List ℕ) → Member b bs → g b ≡ h b) → total (map g bs) ≡ total (map h bs)
+total-members : (g h : List ℕ → ℤ) (bs : List (List ℕ)) → ((b : List ℕ) → In b bs → g b ≡ h b) → total (map g bs) ≡ total (map h bs)
 unfolding total
 total-members g h [] e = refl
-total-members g h (b ∷ bs) e = ap (λ n. n +ℤ total (map g bs)) (e b (inl refl)) ∙ ap (λ n. h b +ℤ n) (total-members g h bs (λ x m. e x (inr m)))
+total-members g h (b ∷ bs) e = ap (λ n. n +ℤ total (map g bs)) (e b here) ∙ ap (λ n. h b +ℤ n) (total-members g h bs (λ x m. e x (there m)))
 
 any-append : (t : ℕ) (xs ys : List ℕ) → holds (xs ++ ys) t ≡ (holds xs t || holds ys t)
 any-append t [] ys = refl
@@ -136,10 +137,13 @@ signed-all number w (b ∷ bs) f =
     (λ c m. ap (λ t. sign_of (cond t false (not (stands_odd ns (number c)))) *ℤ w c) (differs n (number c) (eqb n (number c)) refl (smaller bs f.0 c m)) ∙ sign_flips (stands_odd ns (number c)) (w c)))
     ∙ ap (λ x. w b +ℤ neg_ℤ x) (signed-all number w bs f.1)
   where
-    smaller : (cs : List (List ℕ)) → AllByRecursion (λ m. m < number b) (map number cs) → (c : List ℕ) → Member c cs → number b ≢ number c
-    smaller [] g c m e = absurd m
-    smaller (d ∷ cs) g c (inl s) e = let less : number d < number b = g.0 in let same : number c ≡ number d = ap number s in omega arith
-    smaller (d ∷ cs) g c (inr m) e = smaller cs g.1 c m e
+    smaller : (cs : List (List ℕ)) → AllByRecursion (λ m. m < number b) (map number cs) → (c : List ℕ) → In c cs → number b ≢ number c
+    smaller [] g c m e = elim m [ ]
+    smaller (d ∷ cs) g c m e =
+        elim (In-cases m) [
+          | inl s ↦ let less : number d < number b = g.0 in let same : number c ≡ number d = ap number s in omega arith
+          | inr k ↦ smaller cs g.1 c k e
+        ]
 
 -- ---- a chain, and a target two degrees below
 
@@ -150,7 +154,7 @@ times_cond : (s : ℤ) (h : Bool) (x : ℤ) → cond h (s *ℤ x) (pos 0) ≡ s 
 times_cond s true x = refl
 times_cond s false x = sym (*ℤ-zero s)
 
-module _ (space : List (List (List ℕ))) (degree : ℕ) (chain : List ℕ) (h : Member chain (chains_of space (suc (suc degree)))) (target : ℕ) where
+module _ (space : List (List (List ℕ))) (degree : ℕ) (chain : List ℕ) (h : In chain (chains_of space (suc (suc degree)))) (target : ℕ) where
   low : List (List ℕ)
   low = chains_of space degree
 
@@ -158,9 +162,9 @@ module _ (space : List (List (List ℕ))) (degree : ℕ) (chain : List ℕ) (h :
   mid = chains_of space (suc degree)
 
   cancelled : (facets : ℕ → List ℕ) (outer inner : ℕ → Bool)
-      → ((b : List ℕ) → Member b (chains_of space (suc degree)) → facets (number_or_zero (chains_of space (suc degree)) b) ≡ facet_numbers (chains_of space degree) b)
+      → ((b : List ℕ) → In b (chains_of space (suc degree)) → facets (number_or_zero (chains_of space (suc degree)) b) ≡ facet_numbers (chains_of space degree) b)
       → ((f : ℕ) → outer f ≡ stands_odd (map (number_or_zero (chains_of space (suc degree))) (leave_out chain)) f)
-      → ((b : List ℕ) → Member b (chains_of space (suc degree)) → inner (number_or_zero (chains_of space (suc degree)) b) ≡ stands_odd (map (number_or_zero (chains_of space degree)) (leave_out b)) target)
+      → ((b : List ℕ) → In b (chains_of space (suc degree)) → inner (number_or_zero (chains_of space (suc degree)) b) ≡ stands_odd (map (number_or_zero (chains_of space degree)) (leave_out b)) target)
       → total (map (term facets outer inner target) (facet_numbers (chains_of space (suc degree)) chain)) ≡ pos 0
   unfolding term delta
   cancelled facets outer inner fs os is =
@@ -179,7 +183,7 @@ module _ (space : List (List (List ℕ))) (degree : ℕ) (chain : List ℕ) (h :
       map_map g f [] = refl
       map_map g f (x ∷ xs) = ap (λ r. g (f x) ∷ r) (map_map g f xs)
 
-      one : (b : List ℕ) → Member b (chains_of space (suc degree))
+      one : (b : List ℕ) → In b (chains_of space (suc degree))
           → cond (holds (facets (number_or_zero (chains_of space (suc degree)) b)) target) (sign_of (outer (number_or_zero (chains_of space (suc degree)) b)) *ℤ sign_of (inner (number_or_zero (chains_of space (suc degree)) b))) (pos 0)
           ≡ sign_of (stands_odd (map (number_or_zero (chains_of space (suc degree))) (leave_out chain)) (number_or_zero (chains_of space (suc degree)) b))
           *ℤ alternating_sum (map (λ x. delta target (number_or_zero (chains_of space degree) x)) (leave_out b))
@@ -214,14 +218,14 @@ module _ (space : List (List (List ℕ))) where
   facets-at : (degree place : ℕ) → place < length (chains_of space (suc degree)) → get_or (facet_lists space (suc degree)) place [] ≡ facet_numbers (chains_of space degree) (get_or (chains_of space (suc degree)) place [])
   facets-at degree place l = get_or-map (facet_numbers (chains_of space degree)) (chains_of space (suc degree)) place [] [] l
 
-  number-facets : (degree : ℕ) (b : List ℕ) → Member b (chains_of space (suc degree))
+  number-facets : (degree : ℕ) (b : List ℕ) → In b (chains_of space (suc degree))
       → get_or (facet_lists space (suc degree)) (number_or_zero (chains_of space (suc degree)) b - 1) [] ≡ facet_numbers (chains_of space degree) b
   number-facets degree b m =
       let p = placed (chains_of space (suc degree)) b (ordered-chains_of space (suc degree)) m in
       let i : number_or_zero (chains_of space (suc degree)) b - 1 ≡ p.place = omega (arith, p.number) in
       ap (λ k. get_or (facet_lists space (suc degree)) k []) i ∙ facets-at degree p.place p.within ∙ ap (facet_numbers (chains_of space degree)) p.there
 
-  number-there : (degree : ℕ) (b : List ℕ) → Member b (chains_of space degree) → get_or (chains_of space degree) (number_or_zero (chains_of space degree) b - 1) [] ≡ b
+  number-there : (degree : ℕ) (b : List ℕ) → In b (chains_of space degree) → get_or (chains_of space degree) (number_or_zero (chains_of space degree) b - 1) [] ≡ b
   number-there degree b m =
       let p = placed (chains_of space degree) b (ordered-chains_of space degree) m in
       let i : number_or_zero (chains_of space degree) b - 1 ≡ p.place = omega (arith, p.number) in
@@ -235,7 +239,7 @@ module _ (space : List (List (List ℕ))) where
       let place : cell - 1 < length (chains_of space (suc (suc degree))) = omega arith in
       let t : ℕ → ℤ = term (λ f. get_or (facet_lists space (suc degree)) (f - 1) []) (negative_in space (suc (suc degree)) cell) (λ f. negative_in space (suc degree) f target) target in
       ap (λ fs. total (map t fs)) (facets-at (suc degree) (cell - 1) place)
-      ∙ cancelled space degree chain (member-at (chains_of space (suc (suc degree))) (cell - 1) [] place) target
+      ∙ cancelled space degree chain (at-In (chains_of space (suc (suc degree))) (cell - 1) [] place) target
       (λ f. get_or (facet_lists space (suc degree)) (f - 1) []) (negative_in space (suc (suc degree)) cell) (λ f. negative_in space (suc degree) f target)
       (number-facets degree) (λ f. refl)
       (λ b m. ap (λ c. stands_odd (map (number_or_zero (chains_of space degree)) (leave_out c)) target) (number-there (suc degree) b m))

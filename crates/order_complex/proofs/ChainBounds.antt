@@ -1,22 +1,23 @@
 -- Bounds on faces, chains and counts that the code asks for.
-use Rattle.std.proofs.Common.{◌≡◌, inl, inr, ℕ, zero, suc, ◌+◌, ◌-◌, ◌<◌, ◌≤◌, List, [], ◌∷◌, ◌++◌, map, length, get_or, sum, replicate, All, refl, ap, sym, ◌∙◌, subst, arith}
+use Rattle.std.proofs.Common.{◌≡◌, ℕ, zero, suc, ◌+◌, ◌-◌, ◌<◌, ◌≤◌, List, [], ◌∷◌, ◌++◌, map, length, get_or, All, refl, ap, sym, ◌∙◌, subst, arith}
 use Rattle.std.specs.List.{AllByRecursion, flat_map}
 use Rattle.std.specs.List.Sorted.{IsStrictlyIncreasing}
-use Rattle.std.proofs.lemmas.List.{length-map, get_or_default}
+use Rattle.std.proofs.lemmas.List.{get_or_default}
 use native.Mathlib.Decide.{dec_lt}
 use Prim.{yes, no}
 use Rattle.face_poset.specs.declared.cells.Cell.{Cell}
 use Rattle.face_poset.specs.Words.{upto}
 use Rattle.face_poset.specs.Poset.{count, cell_count}
-use Rattle.number_lists.specs.Cofaces.{cells_with, IsRising}
+use Rattle.number_lists.specs.Cofaces.{IsRising}
 use Rattle.face_poset.specs.Below.{cell_at, closure, facets_of_all}
-use Rattle.order_complex.specs.Chains.{cells_before, id_of, faces_of, all_faces, chains_of, chain_count}
-use Rattle.order_complex.specs.Listing.{extensions, next_counts, counted_chains, uppers_of}
-use Rattle.order_complex.proofs.Members.{Member, map-member}
+use Rattle.number_lists.specs.Members.{In, here, there}
+use Rattle.number_lists.proofs.CallerLemmas.{map-In}
+use Rattle.order_complex.specs.Chains.{cells_before, id_of, faces_of, all_faces, chains_of}
+use Rattle.order_complex.specs.Listing.{extensions, uppers_of, AreWalks}
 use Rattle.order_complex.proofs.Ordered.{Rises, all-of, rises-range, rises-filter}
 use Rattle.order_complex.proofs.FaceIds.{faces_at, face-below, closure-of, facets_of_all-range, length-all_faces, cell_with, faces_at-cell}
-use Rattle.order_complex.proofs.Chained.{Follows, above-member, chains_of-member}
-use Rattle.order_complex.proofs.Extended.{chains_of-zero, chains_of-next, length-uppers_of, counts_of, counts_of-next, sum-counts_of}
+use Rattle.order_complex.proofs.Chained.{Follows, chains_of-member}
+use Rattle.order_complex.proofs.Extended.{chains_of-zero, chains_of-next, length-uppers_of}
 use Rattle.order_complex.proofs.Graded.{all-index}
 
 rises-index : (xs : List ℕ) → Rises xs → IsStrictlyIncreasing xs
@@ -27,12 +28,12 @@ rises-index (x ∷ y ∷ ys) h (suc k) l =
     let e : suc (k + 1) ≡ suc k + 1 = omega arith in
     subst (λ j. get_or (y ∷ ys) k 0 < get_or (x ∷ y ∷ ys) j 0) e (rises-index (y ∷ ys) h.1 k (omega arith))
 
-rises-append : (xs ys : List ℕ) → Rises xs → Rises ys → ((x y : ℕ) → Member x xs → Member y ys → x < y) → Rises (xs ++ ys)
+rises-append : (xs ys : List ℕ) → Rises xs → Rises ys → ((x y : ℕ) → In x xs → In y ys → x < y) → Rises (xs ++ ys)
 rises-append [] ys h k f = k
-rises-append (x ∷ xs) ys h k f = (all-append xs h.0, rises-append xs ys h.1 k (λ a b m n. f a b (inr m) n))
+rises-append (x ∷ xs) ys h k f = (all-append xs h.0, rises-append xs ys h.1 k (λ a b m n. f a b (there m) n))
   where
     all-append : (zs : List ℕ) → AllByRecursion (λ y. x < y) zs → AllByRecursion (λ y. x < y) (zs ++ ys)
-    all-append [] g = all-of (λ y. x < y) ys (λ y m. f x y (inl refl) m)
+    all-append [] g = all-of (λ y. x < y) ys (λ y m. f x y here m)
     all-append (z ∷ zs) g = (g.0, all-append zs g.1)
 
 map-append : (f : Cell → ℕ) (xs ys : List Cell) → map f (xs ++ ys) ≡ map f xs ++ map f ys
@@ -51,9 +52,9 @@ module _ (space : List (List (List ℕ))) where
   facets_of_all-rise : (dim : ℕ) (cells : List ℕ) → Rises (facets_of_all space dim cells)
   facets_of_all-rise dim cells = rises-filter _ (upto (count space dim)) (rises-range 1 (count space dim))
 
-  lower : (dim : ℕ) (cells : List ℕ) → ((m : ℕ) → Member m cells → (1 ≤ m) × (m ≤ count space dim)) → (x : ℕ) → Member x (map (id_of space) (closure space dim cells)) → x ≤ cells_before space (suc dim)
+  lower : (dim : ℕ) (cells : List ℕ) → ((m : ℕ) → In m cells → (1 ≤ m) × (m ≤ count space dim)) → (x : ℕ) → In x (map (id_of space) (closure space dim cells)) → x ≤ cells_before space (suc dim)
   lower dim cells range x h =
-      let r = map-member (id_of space) x (closure space dim cells) h in
+      let r = map-In (id_of space) (closure space dim cells) h in
       let o = closure-of space dim cells r.0 range r.1 in
       let b : cells_before space r.0.dim + r.0.number ≤ cells_before space (suc dim) = before r.0.dim dim o.1 r.0.number o.0.high in
       omega (arith, r.2, b)
@@ -66,14 +67,14 @@ module _ (space : List (List (List ℕ))) where
             | no a ↦ let same : suc d ≡ e = omega arith in subst (λ k. cells_before space e + n ≤ cells_before space (suc k)) (sym same) (omega arith)
           ]
 
-  top-ids : (dim : ℕ) (cells : List ℕ) → ((m : ℕ) → Member m cells → 1 ≤ m) → (y : ℕ) → Member y (map (id_of space) (map (cell_at dim) cells)) → cells_before space dim < y
+  top-ids : (dim : ℕ) (cells : List ℕ) → ((m : ℕ) → In m cells → 1 ≤ m) → (y : ℕ) → In y (map (id_of space) (map (cell_at dim) cells)) → cells_before space dim < y
   top-ids dim cells first y h =
-      let r = map-member (id_of space) y (map (cell_at dim) cells) h in
-      let s = map-member (cell_at dim) r.0 cells r.1 in
+      let r = map-In (id_of space) (map (cell_at dim) cells) h in
+      let s = map-In (cell_at dim) cells r.1 in
       let low : 1 ≤ s.0 = first s.0 s.1 in
       let id : y ≡ cells_before space dim + s.0 = r.2 ∙ ap (id_of space) s.2 in omega (arith, id)
 
-  closure-rises : (dim : ℕ) (cells : List ℕ) → Rises cells → ((m : ℕ) → Member m cells → 1 ≤ m) → Rises (map (id_of space) (closure space dim cells))
+  closure-rises : (dim : ℕ) (cells : List ℕ) → Rises cells → ((m : ℕ) → In m cells → 1 ≤ m) → Rises (map (id_of space) (closure space dim cells))
   closure-rises zero cells h first = ids-rise 0 cells h
   closure-rises (suc dim) cells h first =
       let below : List ℕ = facets_of_all space dim cells in
@@ -98,17 +99,8 @@ module _ (space : List (List (List ℕ))) where
       subst (IsRising (cell_count space)) (sym here) record {
         rises = rises-index (faces_of space x.dim x.number) (faces_of-rise x.dim x.number);
         within = all-index (λ a. (1 ≤ a) × (a ≤ cell_count space)) (faces_of space x.dim x.number)
-            (λ a m. let b = face-below space a id (omega arith) high (subst (Member a) (sym at) m) in (b.0, omega (arith, b.1, high)));
+            (λ a m. let b = face-below space a id (omega arith) high (subst (In a) (sym at) m) in (b.0, omega (arith, b.1, high)));
       }
-
-  -- each list of cells above is within the ids
-  pub uppers-within : All (All (λ cell. (1 ≤ cell) × (cell ≤ length (uppers_of space)))) (uppers_of space)
-  uppers-within =
-      all-index (All (λ cell. (1 ≤ cell) × (cell ≤ length (uppers_of space)))) (uppers_of space) (λ list m.
-      let r = map-member (cells_with (all_faces space)) list (upto (length (all_faces space))) m in
-      subst (All (λ cell. (1 ≤ cell) × (cell ≤ length (uppers_of space)))) (sym r.2)
-      (all-index (λ cell. (1 ≤ cell) × (cell ≤ length (uppers_of space))) (cells_with (all_faces space) r.0)
-      (λ b k. let a = above-member space r.0 b k in (a.low, omega (arith, a.high, length-uppers_of space)))))
 
   -- ---- chains
 
@@ -122,12 +114,7 @@ module _ (space : List (List (List ℕ))) where
       at : (i j : ℕ) → j ≡ suc i → get_or (c ∷ d ∷ rest) j 0 ≡ get_or (d ∷ rest) i 0
       at i j e = ap (λ k. get_or (c ∷ d ∷ rest) k 0) e
 
-  pub record AreWalks (chains : List (List ℕ)) : Type 0 where
-    pub some : All (λ chain. 1 ≤ length chain) chains
-    pub first : All (λ chain. 1 ≤ get_or chain (length chain - 1) 0) chains
-    pub last : All (λ chain. get_or chain (length chain - 1) 0 ≤ length (uppers_of space)) chains
-
-  pub chains-walk : (degree : ℕ) → AreWalks (chains_of space degree)
+  pub chains-walk : (degree : ℕ) → AreWalks (uppers_of space) (chains_of space degree)
   chains-walk degree = record {
     some = all-index (λ chain. 1 ≤ length chain) (chains_of space degree) (λ x m. let c = chains_of-member space degree x m in omega (arith, ap (λ (y : List ℕ). length y) c.is));
     first = all-index (λ chain. 1 ≤ get_or chain (length chain - 1) 0) (chains_of space degree)
@@ -138,25 +125,6 @@ module _ (space : List (List (List ℕ))) where
         subst (λ (y : List ℕ). get_or y (length y - 1) 0 ≤ length (uppers_of space)) (sym c.is) (omega (arith, w.1, length-uppers_of space)));
   }
 
-  -- ---- counts
-
-  map-ones : (n : ℕ) (xs : List ℕ) → length xs ≡ n → map {B = ℕ} (λ c. 1) xs ≡ replicate n 1
-  map-ones zero [] e = refl
-  map-ones zero (x ∷ xs) e = absurd (omega arith)
-  map-ones (suc n) [] e = absurd (omega arith)
-  map-ones (suc n) (x ∷ xs) e = ap (λ r. 1 ∷ r) (map-ones n xs (omega arith))
-
-  first-counts : replicate (length (uppers_of space)) 1 ≡ counts_of space 0
-  first-counts = sym (map-ones (length (uppers_of space)) (upto (length (all_faces space))) (sym (length-map (upto (length (all_faces space))) (cells_with (all_faces space)))))
-
-  pub counted-chains : counted_chains (uppers_of space) ≡ chain_count space
-  counted-chains =
-      let a : replicate (length (uppers_of space)) 1 ≡ counts_of space 0 = first-counts in
-      let b : next_counts (uppers_of space) (replicate (length (uppers_of space)) 1) ≡ counts_of space 1 = ap (next_counts (uppers_of space)) a ∙ counts_of-next space 0 in
-      let c : next_counts (uppers_of space) (next_counts (uppers_of space) (replicate (length (uppers_of space)) 1)) ≡ counts_of space 2 = ap (next_counts (uppers_of space)) b ∙ counts_of-next space 1 in
-      let d : next_counts (uppers_of space) (next_counts (uppers_of space) (next_counts (uppers_of space) (replicate (length (uppers_of space)) 1))) ≡ counts_of space 3 = ap (next_counts (uppers_of space)) c ∙ counts_of-next space 2 in
-      omega (arith, ap sum a ∙ sum-counts_of space 0, ap sum b ∙ sum-counts_of space 1, ap sum c ∙ sum-counts_of space 2, ap sum d ∙ sum-counts_of space 3)
-
   -- ---- as the code asks for them
 
   pub faces-rising : (faces : List (List ℕ)) (n : ℕ) → faces ≡ all_faces space → n ≡ length faces → All (IsRising n) faces
@@ -164,15 +132,8 @@ module _ (space : List (List (List ℕ))) where
       let m : cell_count space ≡ n = sym (length-all_faces space) ∙ ap (λ (xs : List (List ℕ)). length xs) (sym e) ∙ sym l in
       subst (All (IsRising n)) (sym e) (subst (λ k. All (IsRising k) (all_faces space)) m all_faces-rising)
 
-  pub record Walks (uppers chains : List (List ℕ)) : Type 0 where
-    pub some : All (λ chain. 1 ≤ length chain) chains
-    pub first : All (λ chain. 1 ≤ get_or chain (length chain - 1) 0) chains
-    pub last : All (λ chain. get_or chain (length chain - 1) 0 ≤ length uppers) chains
-
-  pub walks : (uppers chains : List (List ℕ)) (degree : ℕ) → uppers ≡ uppers_of space → chains ≡ chains_of space degree → Walks uppers chains
-  walks uppers chains degree u e =
-      let w = chains-walk degree in
-      subst (Walks uppers) (sym e) (subst (λ us. Walks us (chains_of space degree)) (sym u) record { some = w.some; first = w.first; last = w.last })
+  pub walks : (uppers chains : List (List ℕ)) (degree : ℕ) → uppers ≡ uppers_of space → chains ≡ chains_of space degree → AreWalks uppers chains
+  walks uppers chains degree u e = subst (AreWalks uppers) (sym e) (subst (λ us. AreWalks us (chains_of space degree)) (sym u) (chains-walk degree))
 
   pub points-are : (uppers points : List (List ℕ)) (n : ℕ) → uppers ≡ uppers_of space → n ≡ length uppers → points ≡ map (λ cell. cell ∷ []) (upto n) → points ≡ chains_of space 0
   points-are uppers points n u l e =
@@ -182,6 +143,3 @@ module _ (space : List (List (List ℕ))) where
   pub next-are : (uppers chains next : List (List ℕ)) (degree : ℕ) → uppers ≡ uppers_of space → chains ≡ chains_of space degree → next ≡ flat_map (extensions uppers) chains → next ≡ chains_of space (suc degree)
   next-are uppers chains next degree u e n =
       n ∙ ap (λ us. flat_map (extensions us) chains) u ∙ ap (flat_map (extensions (uppers_of space))) e ∙ chains_of-next space degree
-
-  pub entries-within : (uppers : List (List ℕ)) → uppers ≡ uppers_of space → All (All (λ cell. (1 ≤ cell) × (cell ≤ length uppers))) uppers
-  entries-within uppers u = subst (λ us. All (All (λ cell. (1 ≤ cell) × (cell ≤ length us))) us) (sym u) uppers-within

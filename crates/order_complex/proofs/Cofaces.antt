@@ -12,15 +12,15 @@ use Rattle.small_field.specs.Values.{AreElements}
 use Rattle.face_poset.specs.Words.{upto, holds}
 use Rattle.face_poset.specs.Poset.{layer, count, facets_of, cofaces_of}
 use Rattle.number_lists.specs.Cofaces.{cells_with}
-use Rattle.number_lists.proofs.CallerLemmas.{holds-Contains}
+use Rattle.number_lists.proofs.CallerLemmas.{holds-Contains, In-inside, at-In, filter-In, upto-In}
+use Rattle.number_lists.specs.Members.{In}
 use Rattle.order_complex.specs.Chains.{chains_of}
 use Rattle.order_complex.specs.Cochains.{alternating, leave_out, value, mark, coboundary_at, coboundary_on, boundary}
 use Rattle.order_complex.specs.Complex.{number_or_zero, facet_numbers, facet_lists, complex_of, stands_odd, negative_in}
-use Rattle.order_complex.proofs.Members.{Member, filter-member, upto-member}
 use Rattle.order_complex.proofs.Chained.{leave_out-member}
 use Rattle.order_complex.proofs.Ordered.{ordered-chains_of}
 use Rattle.order_complex.proofs.Numbers.{number-at}
-use Rattle.order_complex.proofs.Graded.{Falls, numbers-fall, placed, member-at}
+use Rattle.order_complex.proofs.Graded.{Falls, numbers-fall, placed}
 use Rattle.order_complex.proofs.Cancel.{holds-reverse, complex-count}
 use Rattle.order_complex.proofs.Twice.{bytes_eq-refl, bytes_eq-true, value-map, map-members}
 
@@ -109,7 +109,7 @@ module _ (F : Ops) (L : IsField F) where
 
 module _ (space : List (List (List ℕ))) where
   -- equal chains are those with equal numbers
-  same-number : (degree : ℕ) (x b : List ℕ) → Member x (chains_of space degree) → Member b (chains_of space degree)
+  same-number : (degree : ℕ) (x b : List ℕ) → In x (chains_of space degree) → In b (chains_of space degree)
       → bytes_eq x b ≡ eqb (number_or_zero (chains_of space degree) x) (number_or_zero (chains_of space degree) b)
   same-number degree x b mx mb = by_test (bytes_eq x b) refl
     where
@@ -140,7 +140,7 @@ module _ (space : List (List (List ℕ))) where
 
   module _ (F : Ops) (L : IsField F) where
     -- what the coboundary of a mark takes: the sign at a facet, else 0
-    pub coboundary-mark : (degree number : ℕ) (b c : List ℕ) → Member b (chains_of space degree) → Member c (chains_of space (suc degree)) → number_or_zero (chains_of space degree) b ≡ number
+    pub coboundary-mark : (degree number : ℕ) (b c : List ℕ) → In b (chains_of space degree) → In c (chains_of space (suc degree)) → number_or_zero (chains_of space degree) b ≡ number
         → coboundary_at F (chains_of space degree) (mark (chains_of space degree) b) c
         ≡ weight F (holds (map (number_or_zero (chains_of space degree)) (leave_out c)) number) (stands_odd (map (number_or_zero (chains_of space degree)) (leave_out c)) number)
     coboundary-mark degree number b c mb mc e =
@@ -160,7 +160,7 @@ module _ (space : List (List (List ℕ))) where
         let chains : List (List ℕ) = chains_of space degree in
         let next : List (List ℕ) = chains_of space (suc degree) in
         let b : List ℕ = get_or chains (number - 1) [] in
-        let mb : Member b chains = member-at chains (number - 1) [] (omega arith) in
+        let mb : In b chains = at-In chains (number - 1) [] (omega arith) in
         let ws : List ℕ = map (coboundary_at F chains (mark chains b)) next in
         let lw : length ws ≡ length next = length-map next (coboundary_at F chains (mark chains b)) in
         let here : ℕ → Bool = λ n. holds (get_or (facet_lists space (suc degree)) (n - 1) []) number in
@@ -182,7 +182,7 @@ module _ (space : List (List (List ℕ))) where
             let ms : List ℕ = map (number_or_zero chains) (leave_out c) in
             let e : i ≡ 1 + i - 1 = omega arith in
             get_or-map (coboundary_at F chains (mark chains b)) next i [] 0 k
-            ∙ coboundary-mark degree number b c (member-at chains (number - 1) [] (omega arith)) (member-at next i [] k) (number-of degree number first last)
+            ∙ coboundary-mark degree number b c (at-In chains (number - 1) [] (omega arith)) (at-In next i [] k) (number-of degree number first last)
             ∙ ap (λ t. weight F t (stands_odd ms number)) (sym (holds-reverse number ms) ∙ ap (λ fs. holds fs number) (sym (get_or-map (facet_numbers chains) next i [] [] k)))
             ∙ ap (λ j. weight F (holds (get_or (facet_lists space (suc degree)) j []) number) (stands_odd (map (number_or_zero chains) (leave_out (get_or next j []))) number)) e
 
@@ -194,9 +194,10 @@ module _ (space : List (List (List ℕ))) where
   coface-is degree number i small l =
       let cells : List (List ℕ) = layer (complex_of space) (degree + 1) in
       let n : ℕ = get_or (cells_with cells number) i 0 in
-      let m = filter-member (λ n. holds (get_or cells (n - 1) []) number) n (upto (length cells)) (member-at (cells_with cells number) i 0 l) in
-      let r = upto-member (length cells) n m.0 in
-      (r.0, omega (arith, r.1, complex-count space degree small), holds-Contains (get_or cells (n - 1) []) number m.1)
+      let p : ℕ → Bool = λ n. holds (get_or cells (n - 1) []) number in
+      let at : In n (cells_with cells number) = at-In (cells_with cells number) i 0 l in
+      let r = upto-In (length cells) n (In-inside p (upto (length cells)) at) in
+      (r.0, omega (arith, r.1, complex-count space degree small), holds-Contains (get_or cells (n - 1) []) number (filter-In p (upto (length cells)) at))
 
   pub count-chains : (degree : ℕ) → degree ≤ 3 → count (complex_of space) degree ≡ length (chains_of space degree)
   count-chains zero small = length-map {B = List ℕ} (chains_of space 0) (λ chain. [])

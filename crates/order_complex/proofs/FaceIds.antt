@@ -10,52 +10,55 @@ use Rattle.face_poset.specs.declared.cells.Cell.{Cell}
 use Rattle.face_poset.specs.Words.{upto, holds}
 use Rattle.face_poset.specs.Poset.{count, cell_count, facets_of}
 use Rattle.face_poset.specs.Below.{cell_at, closed_cell, closure, facets_of_all}
+use Rattle.number_lists.specs.Members.{In}
+use Rattle.number_lists.proofs.CallerLemmas.{In-cases, In-filter, In-inside, In-left, In-map, In-right, any-In, any-some, append-In, at-In, filter-In, map-In, upto-In}
 use Rattle.order_complex.specs.Chains.{cells_before, id_of, all_cells, faces_of, all_faces}
-use Rattle.order_complex.proofs.Members.{Member, Within, member-left, member-right, append-member, member-map, map-member, member-filter, filter-member, list_any-member, member-list_any, upto-member}
 
 -- ---- closures
+
+-- each member of the first list is one of the second
+abbrev pub Within : {A : Type 0} → List A → List A → Type 0
+Within {A} xs ys = (x : A) → In x xs → In x ys
 
 module _ (space : List (List (List ℕ))) where
   facets_of_all-within : (dim : ℕ) (xs ys : List ℕ) → Within xs ys → Within (facets_of_all space dim xs) (facets_of_all space dim ys)
   facets_of_all-within dim xs ys w f h =
       let p : ℕ → Bool = λ c. holds (facets_of space (dim + 1) c) f in
-      let r = filter-member (λ g. list_any (λ c. holds (facets_of space (dim + 1) c) g) xs) f (upto (count space dim)) h in
-      let c = list_any-member p xs r.1 in
-      member-filter (λ g. list_any (λ c. holds (facets_of space (dim + 1) c) g) ys) f (upto (count space dim)) r.0 (member-list_any p c.0 ys (w c.0 c.1) c.2)
+      let q : ℕ → Bool = λ g. list_any (λ c. holds (facets_of space (dim + 1) c) g) xs in
+      let c = any-some p xs (filter-In q (upto (count space dim)) h) in
+      In-filter (λ g. list_any (λ c. holds (facets_of space (dim + 1) c) g) ys) (In-inside q (upto (count space dim)) h) (any-In p (w c.0 c.1) c.2)
 
-  pub facets_of_all-range : (dim : ℕ) (xs : List ℕ) (f : ℕ) → Member f (facets_of_all space dim xs) → (1 ≤ f) × (f ≤ count space dim)
+  pub facets_of_all-range : (dim : ℕ) (xs : List ℕ) (f : ℕ) → In f (facets_of_all space dim xs) → (1 ≤ f) × (f ≤ count space dim)
   facets_of_all-range dim xs f h =
-      upto-member (count space dim) f (filter-member (λ g. list_any (λ c. holds (facets_of space (dim + 1) c) g) xs) f (upto (count space dim)) h).0
+      upto-In (count space dim) f (In-inside (λ g. list_any (λ c. holds (facets_of space (dim + 1) c) g) xs) (upto (count space dim)) h)
 
   map-within : (dim : ℕ) (xs ys : List ℕ) → Within xs ys → Within (map (cell_at dim) xs) (map (cell_at dim) ys)
   map-within dim xs ys w x h =
-      let r = map-member (cell_at dim) x xs h in
-      subst (λ c. Member c (map (cell_at dim) ys)) (sym r.2) (member-map (cell_at dim) r.0 ys (w r.0 r.1))
+      let r = map-In (cell_at dim) xs h in
+      subst (λ c. In c (map (cell_at dim) ys)) (sym r.2) (In-map (cell_at dim) (w r.0 r.1))
 
   closure-within : (dim : ℕ) (xs ys : List ℕ) → Within xs ys → Within (closure space dim xs) (closure space dim ys)
   closure-within zero xs ys w x h = map-within 0 xs ys w x h
   closure-within (suc dim) xs ys w x h =
-      elim (append-member x (closure space dim (facets_of_all space dim xs)) (map (cell_at (suc dim)) xs) h) [
-        | inl a ↦ member-left x (closure space dim (facets_of_all space dim ys)) (map (cell_at (suc dim)) ys)
-            (closure-within dim (facets_of_all space dim xs) (facets_of_all space dim ys) (facets_of_all-within dim xs ys w) x a)
-        | inr b ↦ member-right x (closure space dim (facets_of_all space dim ys)) (map (cell_at (suc dim)) ys) (map-within (suc dim) xs ys w x b)
+      elim (append-In (closure space dim (facets_of_all space dim xs)) (map (cell_at (suc dim)) xs) h) [
+        | inl a ↦ In-left (map (cell_at (suc dim)) ys) (closure-within dim (facets_of_all space dim xs) (facets_of_all space dim ys) (facets_of_all-within dim xs ys w) x a)
+        | inr b ↦ In-right (closure space dim (facets_of_all space dim ys)) (map-within (suc dim) xs ys w x b)
       ]
 
-  one-within : (m : ℕ) (xs : List ℕ) → Member m xs → Within (m ∷ []) xs
-  one-within m xs h k (inl e) = subst (λ n. Member n xs) (sym e) h
-  one-within m xs h k (inr n) = absurd n
+  one-within : (m : ℕ) (xs : List ℕ) → In m xs → Within (m ∷ []) xs
+  one-within m xs h k i = elim (In-cases i) [ inl e ↦ subst (λ n. In n xs) (sym e) h | inr n ↦ elim n [ ] ]
 
-  at_top : (dim : ℕ) (cells : List ℕ) (x : Cell) → Member x (map (cell_at dim) cells) → Within (closure space dim cells) (closure space dim cells) → Within (closure space x.dim (x.number ∷ [])) (closure space dim cells)
+  at_top : (dim : ℕ) (cells : List ℕ) (x : Cell) → In x (map (cell_at dim) cells) → Within (closure space dim cells) (closure space dim cells) → Within (closure space x.dim (x.number ∷ [])) (closure space dim cells)
   at_top dim cells x h w =
-      let r = map-member (cell_at dim) x cells h in
+      let r = map-In (cell_at dim) cells h in
       subst (λ (c : Cell). Within (closure space c.dim (c.number ∷ [])) (closure space dim cells)) (sym r.2) (closure-within dim (r.0 ∷ []) cells (one-within r.0 cells r.1))
 
   -- what lies below a cell of a closure is in the closure
-  pub closure-closed : (dim : ℕ) (cells : List ℕ) (x : Cell) → Member x (closure space dim cells) → Within (closure space x.dim (x.number ∷ [])) (closure space dim cells)
+  pub closure-closed : (dim : ℕ) (cells : List ℕ) (x : Cell) → In x (closure space dim cells) → Within (closure space x.dim (x.number ∷ [])) (closure space dim cells)
   closure-closed zero cells x h = at_top 0 cells x h (λ y k. k)
   closure-closed (suc dim) cells x h =
-      elim (append-member x (closure space dim (facets_of_all space dim cells)) (map (cell_at (suc dim)) cells) h) [
-        | inl a ↦ λ y k. member-left y (closure space dim (facets_of_all space dim cells)) (map (cell_at (suc dim)) cells) (closure-closed dim (facets_of_all space dim cells) x a y k)
+      elim (append-In (closure space dim (facets_of_all space dim cells)) (map (cell_at (suc dim)) cells) h) [
+        | inl a ↦ λ y k. In-left (map (cell_at (suc dim)) cells) (closure-closed dim (facets_of_all space dim cells) x a y k)
         | inr b ↦ at_top (suc dim) cells x b (λ y k. k)
       ]
 
@@ -63,16 +66,16 @@ module _ (space : List (List (List ℕ))) where
     pub low : 1 ≤ x.number
     pub high : x.number ≤ count space x.dim
 
-  of_top : (dim : ℕ) (cells : List ℕ) (x : Cell) → ((m : ℕ) → Member m cells → (1 ≤ m) × (m ≤ count space dim)) → Member x (map (cell_at dim) cells) → IsOf x × (x.dim ≡ dim)
+  of_top : (dim : ℕ) (cells : List ℕ) (x : Cell) → ((m : ℕ) → In m cells → (1 ≤ m) × (m ≤ count space dim)) → In x (map (cell_at dim) cells) → IsOf x × (x.dim ≡ dim)
   of_top dim cells x range h =
-      let r = map-member (cell_at dim) x cells h in
+      let r = map-In (cell_at dim) cells h in
       let b = range r.0 r.1 in
       subst (λ (c : Cell). IsOf c × (c.dim ≡ dim)) (sym r.2) (record { low = b.0; high = b.1 }, refl)
 
-  pub closure-of : (dim : ℕ) (cells : List ℕ) (x : Cell) → ((m : ℕ) → Member m cells → (1 ≤ m) × (m ≤ count space dim)) → Member x (closure space dim cells) → IsOf x × (x.dim ≤ dim)
+  pub closure-of : (dim : ℕ) (cells : List ℕ) (x : Cell) → ((m : ℕ) → In m cells → (1 ≤ m) × (m ≤ count space dim)) → In x (closure space dim cells) → IsOf x × (x.dim ≤ dim)
   closure-of zero cells x range h = let t = of_top 0 cells x range h in (t.0, omega (arith, t.1))
   closure-of (suc dim) cells x range h =
-      elim (append-member x (closure space dim (facets_of_all space dim cells)) (map (cell_at (suc dim)) cells) h) [
+      elim (append-In (closure space dim (facets_of_all space dim cells)) (map (cell_at (suc dim)) cells) h) [
         | inl a ↦ let t = closure-of dim (facets_of_all space dim cells) x (facets_of_all-range dim cells) a in (t.0, omega (arith, t.1))
         | inr b ↦ let t = of_top (suc dim) cells x range b in (t.0, omega (arith, t.1))
       ]
@@ -145,7 +148,7 @@ module _ (space : List (List (List ℕ))) where
         ]
       ]
 
-  id_high : (dim n : ℕ) → dim ≤ 3 → n ≤ count space dim → cells_before space dim + n ≤ cell_count space
+  pub id_high : (dim n : ℕ) → dim ≤ 3 → n ≤ count space dim → cells_before space dim + n ≤ cell_count space
   id_high zero n small high = omega arith
   id_high (suc zero) n small high = omega arith
   id_high (suc (suc zero)) n small high = omega arith
@@ -166,28 +169,28 @@ module _ (space : List (List (List ℕ))) where
 
   -- ---- a face of a face is a face
 
-  ids_within : (e m a : ℕ) (cells : List Cell) → Within (closure space e (m ∷ [])) cells → Member a (faces_of space e m) → Member a (map (id_of space) cells)
-  ids_within zero m a cells w h = absurd h
+  ids_within : (e m a : ℕ) (cells : List Cell) → Within (closure space e (m ∷ [])) cells → In a (faces_of space e m) → In a (map (id_of space) cells)
+  ids_within zero m a cells w h = elim h [ ]
   ids_within (suc e) m a cells w h =
       let lower : List Cell = closure space e (facets_of_all space e (m ∷ [])) in
-      let r = map-member (id_of space) a lower h in
-      subst (λ x. Member x (map (id_of space) cells)) (sym r.2) (member-map (id_of space) r.0 cells (w r.0 (member-left r.0 lower (map (cell_at (suc e)) (m ∷ [])) r.1)))
+      let r = map-In (id_of space) lower h in
+      subst (λ x. In x (map (id_of space) cells)) (sym r.2) (In-map (id_of space) (w r.0 (In-left (map (cell_at (suc e)) (m ∷ [])) r.1)))
 
-  faces_of-closed : (dim n a b : ℕ) → dim ≤ 3 → Member b (faces_of space dim n) → Member a (faces_at b) → Member a (faces_of space dim n)
-  faces_of-closed zero n a b small h k = absurd h
+  faces_of-closed : (dim n a b : ℕ) → dim ≤ 3 → In b (faces_of space dim n) → In a (faces_at b) → In a (faces_of space dim n)
+  faces_of-closed zero n a b small h k = elim h [ ]
   faces_of-closed (suc dim) n a b small h k =
       let below : List Cell = closure space dim (facets_of_all space dim (n ∷ [])) in
-      let r = map-member (id_of space) b below h in
+      let r = map-In (id_of space) below h in
       let x : Cell = r.0 in
       let o = closure-of dim (facets_of_all space dim (n ∷ [])) x (facets_of_all-range dim (n ∷ [])) r.1 in
       let same : faces_at b ≡ faces_of space x.dim x.number = ap faces_at r.2 ∙ faces_at-cell x.dim x.number (omega (arith, o.1)) o.0.low o.0.high in
-      ids_within x.dim x.number a below (closure-closed dim (facets_of_all space dim (n ∷ [])) x r.1) (subst (Member a) same k)
+      ids_within x.dim x.number a below (closure-closed dim (facets_of_all space dim (n ∷ [])) x r.1) (subst (In a) same k)
 
-  pub face_of_face : (a b c : ℕ) → 1 ≤ c → c ≤ cell_count space → Member a (faces_at b) → Member b (faces_at c) → Member a (faces_at c)
+  pub face_of_face : (a b c : ℕ) → 1 ≤ c → c ≤ cell_count space → In a (faces_at b) → In b (faces_at c) → In a (faces_at c)
   face_of_face a b c low high h k =
       let x = cell_with c low high in
       let same : faces_at c ≡ faces_of space x.dim x.number = ap faces_at x.is ∙ faces_at-cell x.dim x.number x.small x.low x.high in
-      subst (Member a) (sym same) (faces_of-closed x.dim x.number a b x.small (subst (Member b) same k) h)
+      subst (In a) (sym same) (faces_of-closed x.dim x.number a b x.small (subst (In b) same k) h)
 
   -- the id of a face is smaller
   id_below : (dim e : ℕ) → dim < e → e ≤ 3 → (n : ℕ) → n ≤ count space dim → cells_before space dim + n ≤ cells_before space e
@@ -198,36 +201,30 @@ module _ (space : List (List (List ℕ))) where
         | no g ↦ let same : dim ≡ e = omega arith in subst (λ d. cells_before space dim + n ≤ cells_before space (suc d)) same (omega arith)
       ]
 
-  faces_of-below : (dim n a : ℕ) → dim ≤ 3 → 1 ≤ n → Member a (faces_of space dim n) → (1 ≤ a) × (a < cells_before space dim + n)
-  faces_of-below zero n a small low h = absurd h
+  faces_of-below : (dim n a : ℕ) → dim ≤ 3 → 1 ≤ n → In a (faces_of space dim n) → (1 ≤ a) × (a < cells_before space dim + n)
+  faces_of-below zero n a small low h = elim h [ ]
   faces_of-below (suc dim) n a small low h =
       let below : List Cell = closure space dim (facets_of_all space dim (n ∷ [])) in
-      let r = map-member (id_of space) a below h in
+      let r = map-In (id_of space) below h in
       let x : Cell = r.0 in
       let o = closure-of dim (facets_of_all space dim (n ∷ [])) x (facets_of_all-range dim (n ∷ [])) r.1 in
       let under : cells_before space x.dim + x.number ≤ cells_before space (suc dim) = id_below x.dim (suc dim) (omega (arith, o.1)) small x.number o.0.high in
       (omega (arith, r.2, o.0.low), omega (arith, r.2, under))
 
-  pub face-below : (a b : ℕ) → 1 ≤ b → b ≤ cell_count space → Member a (faces_at b) → (1 ≤ a) × (a < b)
+  pub face-below : (a b : ℕ) → 1 ≤ b → b ≤ cell_count space → In a (faces_at b) → (1 ≤ a) × (a < b)
   face-below a b low high h =
       let x = cell_with b low high in
       let same : faces_at b ≡ faces_of space x.dim x.number = ap faces_at x.is ∙ faces_at-cell x.dim x.number x.small x.low x.high in
-      let r = faces_of-below x.dim x.number a x.small x.low (subst (Member a) same h) in
+      let r = faces_of-below x.dim x.number a x.small x.low (subst (In a) same h) in
       (r.0, omega (arith, r.1, x.is))
 
   -- ---- the list of a closed cell
 
-  in_range : (dim n : ℕ) → 1 ≤ n → n ≤ count space dim → (m : ℕ) → Member m (n ∷ []) → (1 ≤ m) × (m ≤ count space dim)
-  in_range dim n low high m (inl e) = (omega arith, omega arith)
-  in_range dim n low high m (inr h) = absurd h
-
-  member-at : (xs : List Cell) (i : ℕ) (d : Cell) → i < length xs → Member (get_or xs i d) xs
-  member-at [] i d l = absurd (omega arith)
-  member-at (x ∷ xs) zero d l = inl refl
-  member-at (x ∷ xs) (suc i) d l = inr (member-at xs i d (omega arith))
+  in_range : (dim n : ℕ) → 1 ≤ n → n ≤ count space dim → (m : ℕ) → In m (n ∷ []) → (1 ≤ m) × (m ≤ count space dim)
+  in_range dim n low high m i = elim (In-cases i) [ inl e ↦ (omega arith, omega arith) | inr h ↦ elim h [ ] ]
 
   pub closed_cell-at : (dim n i : ℕ) (d : Cell) → 1 ≤ n → n ≤ count space dim → i < length (closed_cell space dim n) → IsOf (get_or (closed_cell space dim n) i d) × ((get_or (closed_cell space dim n) i d).dim ≤ dim)
-  closed_cell-at dim n i d low high l = closure-of dim (n ∷ []) (get_or (closed_cell space dim n) i d) (in_range dim n low high) (member-at (closed_cell space dim n) i d l)
+  closed_cell-at dim n i d low high l = closure-of dim (n ∷ []) (get_or (closed_cell space dim n) i d) (in_range dim n low high) (at-In (closed_cell space dim n) i d l)
 
   -- without its last cell it is the list of the faces
   pub closed_cell-faces : (dim n : ℕ) → map (id_of space) (take (length (closed_cell space dim n) - 1) (closed_cell space dim n)) ≡ faces_of space dim n

@@ -9,11 +9,12 @@ use native.Mathlib.Decide.{dec_lt}
 use Prim.{yes, no}
 use Rattle.face_poset.specs.Poset.{layer, count, IsCell, IsSpace}
 use Rattle.number_lists.specs.Cofaces.{IsRising}
+use Rattle.number_lists.specs.Members.{In, here, there}
+use Rattle.number_lists.proofs.CallerLemmas.{In-cases, at-In, map-In}
 use Rattle.order_complex.specs.Order.{Before, IsOrdered}
 use Rattle.order_complex.specs.Chains.{chains_of, chain_count}
 use Rattle.order_complex.specs.Cochains.{leave_out}
 use Rattle.order_complex.specs.Complex.{number_or_zero, facet_numbers, facet_lists, complex_of}
-use Rattle.order_complex.proofs.Members.{Member, map-member}
 use Rattle.order_complex.proofs.FaceIds.{face-below}
 use Rattle.order_complex.proofs.Chained.{IsAbove, Follows, chains_of-member, leave_out-member}
 use Rattle.order_complex.proofs.Ordered.{ordered-at, ordered-chains_of, before-self}
@@ -28,18 +29,21 @@ pub record Placed (chains : List (List ℕ)) (ids : List ℕ) : Type 0 where
   pub there : get_or chains place [] ≡ ids
   pub number : number_or_zero chains ids ≡ place + 1
 
-place-of : (chains : List (List ℕ)) (ids : List ℕ) → Member ids chains → (place : ℕ) × (place < length chains) × (get_or chains place [] ≡ ids)
-place-of [] ids h = absurd h
-place-of (c ∷ chains) ids (inl e) = (0, omega arith, sym e)
-place-of (c ∷ chains) ids (inr h) = let r = place-of chains ids h in (suc r.0, omega (arith, r.1), r.2)
+place-of : (chains : List (List ℕ)) (ids : List ℕ) → In ids chains → (place : ℕ) × (place < length chains) × (get_or chains place [] ≡ ids)
+place-of [] ids h = elim h [ ]
+place-of (c ∷ chains) ids m =
+    elim (In-cases m) [
+      | inl e ↦ (0, omega arith, sym e)
+      | inr h ↦ let r = place-of chains ids h in (suc r.0, omega (arith, r.1), r.2)
+    ]
 
-pub placed : (chains : List (List ℕ)) (ids : List ℕ) → IsOrdered chains → Member ids chains → Placed chains ids
+pub placed : (chains : List (List ℕ)) (ids : List ℕ) → IsOrdered chains → In ids chains → Placed chains ids
 placed chains ids o h =
     let r = place-of chains ids h in
     record { place = r.0; within = r.1; there = r.2; number = ap (λ n. unwrap_or n 0) (number-at chains ids r.0 o r.1 r.2) }
 
 -- an earlier member has a smaller number
-number-rises : (chains : List (List ℕ)) (a b : List ℕ) → IsOrdered chains → Member a chains → Member b chains → Before a b → number_or_zero chains a < number_or_zero chains b
+number-rises : (chains : List (List ℕ)) (a b : List ℕ) → IsOrdered chains → In a chains → In b chains → Before a b → number_or_zero chains a < number_or_zero chains b
 number-rises chains a b o ha hb less =
     let p = placed chains a o ha in
     let q = placed chains b o hb in
@@ -87,14 +91,14 @@ abbrev pub Falls : List ℕ → Type 0
 Falls [] = ⊤
 Falls (x ∷ xs) = AllByRecursion (λ y. y < x) xs × Falls xs
 
-falls-numbers : (chains xs : List (List ℕ)) → IsOrdered chains → ((x : List ℕ) → Member x xs → Member x chains) → FallingSequences xs → Falls (map (number_or_zero chains) xs)
+falls-numbers : (chains xs : List (List ℕ)) → IsOrdered chains → ((x : List ℕ) → In x xs → In x chains) → FallingSequences xs → Falls (map (number_or_zero chains) xs)
 unfolding FallingSequences
 falls-numbers chains [] o w h = tt
-falls-numbers chains (x ∷ xs) o w h = (smaller xs h.0 (λ y m. w y (inr m)), falls-numbers chains xs o (λ y m. w y (inr m)) h.1)
+falls-numbers chains (x ∷ xs) o w h = (smaller xs h.0 (λ y m. w y (there m)), falls-numbers chains xs o (λ y m. w y (there m)) h.1)
   where
-    smaller : (ys : List (List ℕ)) → AllByRecursion (λ y. Before y x) ys → ((y : List ℕ) → Member y ys → Member y chains) → AllByRecursion (λ n. n < number_or_zero chains x) (map (number_or_zero chains) ys)
+    smaller : (ys : List (List ℕ)) → AllByRecursion (λ y. Before y x) ys → ((y : List ℕ) → In y ys → In y chains) → AllByRecursion (λ n. n < number_or_zero chains x) (map (number_or_zero chains) ys)
     smaller [] g v = tt
-    smaller (y ∷ ys) g v = (number-rises chains y x o (v y (inl refl)) (w x (inl refl)) g.0, smaller ys g.1 (λ z m. v z (inr m)))
+    smaller (y ∷ ys) g v = (number-rises chains y x o (v y here) (w x here) g.0, smaller ys g.1 (λ z m. v z (there m)))
 
 falls-at : (xs : List ℕ) (i j : ℕ) → Falls xs → i < j → j < length xs → get_or xs j 0 < get_or xs i 0
 falls-at [] i j h l m = absurd (omega arith)
@@ -117,44 +121,39 @@ rises-reversed xs h k l =
 
 -- ---- cells
 
-pub member-at : {A : Type 0} (xs : List A) (i : ℕ) (d : A) → i < length xs → Member (get_or xs i d) xs
-member-at [] i d l = absurd (omega arith)
-member-at (x ∷ xs) zero d l = inl refl
-member-at (x ∷ xs) (suc i) d l = inr (member-at xs i d (omega arith))
-
-pub all-index : {A : Type 0} (P : A → Type 0) (xs : List A) → ((x : A) → Member x xs → P x) → All P xs
-all-index P xs f i d l = f (get_or xs i d) (member-at xs i d l)
+pub all-index : {A : Type 0} (P : A → Type 0) (xs : List A) → ((x : A) → In x xs → P x) → All P xs
+all-index P xs f i d l = f (get_or xs i d) (at-In xs i d l)
 
 length-leave_out : (chain : List ℕ) → length (leave_out chain) ≡ length chain
 length-leave_out [] = refl
 length-leave_out (c ∷ cs) = omega (arith, length-map (leave_out cs) (λ chain. c ∷ chain), length-leave_out cs)
 
 module _ (space : List (List (List ℕ))) where
-  numbers-within : (degree : ℕ) (xs : List (List ℕ)) → ((x : List ℕ) → Member x xs → Member x (chains_of space degree)) → (n : ℕ) → Member n (map (number_or_zero (chains_of space degree)) xs) → (1 ≤ n) × (n ≤ length (chains_of space degree))
+  numbers-within : (degree : ℕ) (xs : List (List ℕ)) → ((x : List ℕ) → In x xs → In x (chains_of space degree)) → (n : ℕ) → In n (map (number_or_zero (chains_of space degree)) xs) → (1 ≤ n) × (n ≤ length (chains_of space degree))
   numbers-within degree xs w n h =
-      let r = map-member (number_or_zero (chains_of space degree)) n xs h in
+      let r = map-In (number_or_zero (chains_of space degree)) xs h in
       let p = placed (chains_of space degree) r.0 (ordered-chains_of space degree) (w r.0 r.1) in
       (omega (arith, p.number, r.2), omega (arith, p.number, p.within, r.2))
 
   -- the numbers of the chains with one entry left out fall
-  pub numbers-fall : (degree : ℕ) (chain : List ℕ) → Member chain (chains_of space (suc degree)) → Falls (map (number_or_zero (chains_of space degree)) (leave_out chain))
+  pub numbers-fall : (degree : ℕ) (chain : List ℕ) → In chain (chains_of space (suc degree)) → Falls (map (number_or_zero (chains_of space degree)) (leave_out chain))
   numbers-fall degree chain h =
       let c = chains_of-member space (suc degree) chain h in
       let falls : FallingSequences (leave_out chain) = subst (λ x. FallingSequences (leave_out x)) (sym c.is) (leave_out-falls space c.first c.rest c.follows) in
       falls-numbers (chains_of space degree) (leave_out chain) (ordered-chains_of space degree) (leave_out-member space degree chain h) falls
 
-  pub facets-are : (degree : ℕ) (chain : List ℕ) → Member chain (chains_of space (suc degree)) → IsCell (length (chains_of space degree)) (facet_numbers (chains_of space degree) chain)
+  pub facets-are : (degree : ℕ) (chain : List ℕ) → In chain (chains_of space (suc degree)) → IsCell (length (chains_of space degree)) (facet_numbers (chains_of space degree) chain)
   facets-are degree chain h =
       let below : List (List ℕ) = chains_of space degree in
       let ns : List ℕ = map (number_or_zero below) (leave_out chain) in
       let c = chains_of-member space (suc degree) chain h in
-      let w : (x : List ℕ) → Member x (leave_out chain) → Member x below = leave_out-member space degree chain h in
+      let w : (x : List ℕ) → In x (leave_out chain) → In x below = leave_out-member space degree chain h in
       let long : length ns ≡ length chain = length-map (leave_out chain) (number_or_zero below) ∙ length-leave_out chain in
       record {
         rises = rises-reversed ns (numbers-fall degree chain h);
         within = λ i d l.
             let lt : i < length ns = omega (arith, length-reverse ns) in
-            let m : Member (get_or ns (length ns - 1 - i) d) ns = member-at ns (length ns - 1 - i) d (omega arith) in
+            let m : In (get_or ns (length ns - 1 - i) d) ns = at-In ns (length ns - 1 - i) d (omega arith) in
             subst (λ n. (1 ≤ n) × (n ≤ length below)) (sym (get_or-reverse ns i d lt)) (numbers-within degree (leave_out chain) w (get_or ns (length ns - 1 - i) d) m);
         some = omega (arith, length-reverse ns, long, ap (λ (x : List ℕ). length x) c.is);
       }
@@ -162,15 +161,15 @@ module _ (space : List (List (List ℕ))) where
   all-map : (below : ℕ) (degree : ℕ) → below ≡ length (chains_of space degree) → All (IsCell below) (facet_lists space (suc degree))
   all-map below degree e =
       all-index (IsCell below) (facet_lists space (suc degree)) (λ x m.
-      let r = map-member (facet_numbers (chains_of space degree)) x (chains_of space (suc degree)) m in
+      let r = map-In (facet_numbers (chains_of space degree)) (chains_of space (suc degree)) m in
       subst (λ n. IsCell n x) (sym e) (subst (IsCell (length (chains_of space degree))) (sym r.2) (facets-are degree r.0 r.1)))
 
   length-facet_lists : (degree : ℕ) → length (facet_lists space degree) ≡ length (chains_of space degree)
   length-facet_lists zero = length-map (chains_of space 0) (λ chain. [])
   length-facet_lists (suc degree) = length-map (chains_of space (suc degree)) (facet_numbers (chains_of space degree))
 
-  no_facets : (xs : List (List ℕ)) (x : List ℕ) → Member x (map {B = List ℕ} (λ chain. []) xs) → x ≡ []
-  no_facets xs x m = (map-member {B = List ℕ} (λ chain. []) x xs m).2
+  no_facets : (xs : List (List ℕ)) (x : List ℕ) → In x (map {B = List ℕ} (λ chain. []) xs) → x ≡ []
+  no_facets xs x m = (map-In {B = List ℕ} (λ chain. []) xs m).2
 
   cells-are : (dim : ℕ) → 1 ≤ dim → All (IsCell (count (complex_of space) (dim - 1))) (layer (complex_of space) dim)
   cells-are zero l = absurd (omega arith)

@@ -1,15 +1,16 @@
 -- A space has four layers, so no chain has five cells.
-use Rattle.std.proofs.Common.{◌≡◌, ℕ, zero, suc, ◌+◌, ◌<◌, ◌≤◌, List, [], ◌∷◌, inl, length, refl, ap, sym, ◌∙◌, subst, arith}
+use Rattle.std.proofs.Common.{◌≡◌, ℕ, zero, suc, ◌+◌, ◌<◌, ◌≤◌, List, [], ◌∷◌, length, refl, ap, sym, ◌∙◌, subst, arith}
 use native.Mathlib.Decide.{dec_lt}
 use Prim.{yes, no}
 use Rattle.face_poset.specs.declared.cells.Cell.{Cell}
 use Rattle.face_poset.specs.Poset.{count, cell_count}
 use Rattle.face_poset.specs.Below.{closure, facets_of_all}
 use Rattle.order_complex.specs.Chains.{cells_before, id_of, faces_of, chains_of}
-use Rattle.order_complex.specs.Sequences.{Member, IsAbove, Follows}
+use Rattle.number_lists.specs.Members.{In, here}
+use Rattle.number_lists.proofs.CallerLemmas.{map-In}
+use Rattle.order_complex.specs.Sequences.{IsAbove, Follows}
 use Rattle.order_complex.proofs.Chained.{chains_of-member}
 use Rattle.order_complex.proofs.FaceIds.{faces_at, faces_at-cell, cell_with, closure-of, facets_of_all-range}
-use Rattle.order_complex.proofs.Members.{map-member}
 
 module _ (space : List (List (List ℕ))) where
   before_rises : (d e : ℕ) → d ≤ e → cells_before space d ≤ cells_before space e
@@ -21,11 +22,11 @@ module _ (space : List (List (List ℕ))) where
       ]
 
   -- the faces of a cell have ids of smaller dimension
-  face_of-rises : (k dim n a : ℕ) → cells_before space k < a → Member a (faces_of space dim n) → cells_before space (suc k) ≤ cells_before space dim
-  face_of-rises k zero n a h m = absurd m
+  face_of-rises : (k dim n a : ℕ) → cells_before space k < a → In a (faces_of space dim n) → cells_before space (suc k) ≤ cells_before space dim
+  face_of-rises k zero n a h m = elim m [ ]
   face_of-rises k (suc dim) n a h m =
       let lower : List Cell = closure space dim (facets_of_all space dim (n ∷ [])) in
-      let r = map-member (id_of space) a lower m in
+      let r = map-In (id_of space) lower m in
       let x : Cell = r.0 in
       let o = closure-of space dim (facets_of_all space dim (n ∷ [])) x (facets_of_all-range space dim (n ∷ [])) r.1 in
       let id : a ≡ cells_before space x.dim + x.number = r.2 in
@@ -41,7 +42,7 @@ module _ (space : List (List (List ℕ))) where
   above-rises k a b h up =
       let x = cell_with space b up.low up.high in
       let same = ap (faces_at space) x.is ∙ faces_at-cell space x.dim x.number x.small x.low x.high in
-      let w = face_of-rises k x.dim x.number a h (subst (Member a) same up.face) in
+      let w = face_of-rises k x.dim x.number a h (subst (In a) same up.face) in
       omega (arith, w, x.is, x.low)
 
   no_five : (a : ℕ) (rest : List ℕ) → 1 ≤ a → length rest ≡ 4 → Follows space a rest → ⊥
@@ -54,9 +55,9 @@ module _ (space : List (List (List ℕ))) where
       omega arith
   no_five a _ low l f = absurd (omega arith)
 
-  nothing : (chains : List (List ℕ)) → ((x : List ℕ) → Member x chains → ⊥) → chains ≡ []
+  nothing : (chains : List (List ℕ)) → ((x : List ℕ) → In x chains → ⊥) → chains ≡ []
   nothing [] none = refl
-  nothing (x ∷ chains) none = absurd (none x (inl refl))
+  nothing (x ∷ chains) none = absurd (none x here)
 
   pub chains_of-four : chains_of space 4 ≡ []
   chains_of-four = nothing (chains_of space 4) (λ x m. let c = chains_of-member space 4 x m in no_five c.first c.rest c.low c.long c.follows)

@@ -1,12 +1,13 @@
 -- The numbers of chains in a list in lexicographic order.
-use Rattle.std.proofs.Common.{◌≡◌, ◌≢◌, inl, inr, ℕ, zero, suc, ◌+◌, ◌<◌, List, [], ◌∷◌, ◌++◌, Bool, true, false, cond, map, take, drop, length, get_or, Some, None, refl, ap, sym, ◌∙◌, subst, arith}
+use Rattle.std.proofs.Common.{◌≡◌, ◌≢◌, ℕ, zero, suc, ◌+◌, ◌<◌, List, [], ◌∷◌, ◌++◌, Bool, true, false, cond, map, take, drop, length, get_or, Some, None, refl, ap, sym, ◌∙◌, subst, arith}
 use Rattle.std.specs.Prelude.{option_map}
 use Rattle.std.specs.List.{range_with_len}
 use Rattle.std.specs.Str.{bytes_eq}
+use Rattle.number_lists.specs.Members.{In}
+use Rattle.number_lists.proofs.CallerLemmas.{at-In}
 use Rattle.order_complex.specs.Order.{Before, IsOrdered}
 use Rattle.order_complex.specs.Cochains.{leave_out}
 use Rattle.order_complex.specs.Complex.{number_in}
-use Rattle.order_complex.proofs.Members.{Member}
 use Rattle.order_complex.proofs.Ordered.{all-at, before-self}
 use Rattle.order_complex.proofs.Twice.{bytes_eq-refl, bytes_eq-true}
 
@@ -21,17 +22,12 @@ not-equal b c false e ne = refl
 number-later : (chain ids : List ℕ) (chains : List (List ℕ)) → chain ≢ ids → number_in (chain ∷ chains) ids ≡ option_map suc (number_in chains ids)
 number-later chain ids chains ne = ap (λ t. cond t (Some 1) (option_map suc (number_in chains ids))) (not-equal chain ids (bytes_eq chain ids) refl ne)
 
-member-at : (chains : List (List ℕ)) (place : ℕ) → place < length chains → Member (get_or chains place []) chains
-member-at [] place l = absurd (omega arith)
-member-at (c ∷ chains) zero l = inl refl
-member-at (c ∷ chains) (suc place) l = inr (member-at chains place (omega arith))
-
 -- the number of the ids at a place
 pub number-at : (chains : List (List ℕ)) (ids : List ℕ) (place : ℕ) → IsOrdered chains → place < length chains → get_or chains place [] ≡ ids → number_in chains ids ≡ Some (place + 1)
 number-at [] ids place o l e = absurd (omega arith)
 number-at (c ∷ chains) ids zero o l e = number-first c ids chains e
 number-at (c ∷ chains) ids (suc place) o l e =
-    number-later c ids chains (λ same. before-self ids (subst (λ x. Before x ids) same (all-at (Before c) chains ids o.0 (subst (λ x. Member x chains) e (member-at chains place (omega arith))))))
+    number-later c ids chains (λ same. before-self ids (subst (λ x. Before x ids) same (all-at (Before c) chains ids o.0 (subst (λ x. In x chains) e (at-In chains place [] (omega arith))))))
     ∙ ap (option_map suc) (number-at chains ids place o.1 (omega arith) e) ∙ ap Some (omega arith)
 
 -- ids that are nowhere have none

@@ -6,9 +6,10 @@ use Rattle.std.proofs.lemmas.List.Concat.{flat_map-cons}
 use native.Mathlib.Decide.{dec_lt}
 use Prim.{yes, no}
 use Rattle.face_poset.specs.Words.{upto, holds}
+use Rattle.number_lists.specs.Members.{In, here, there}
+use Rattle.number_lists.proofs.CallerLemmas.{In-cases, flat_map-In, map-In}
 use Rattle.order_complex.specs.Chains.{all_faces, above, chains_from, chains_of}
 use Rattle.order_complex.specs.Order.{Before, IsOrdered}
-use Rattle.order_complex.proofs.Members.{Member, map-member, flat_map-member}
 
 abbrev pub Rises : List ℕ → Type 0
 Rises [] = ⊤
@@ -18,14 +19,13 @@ all-weaker : {A : Type 0} (P Q : A → Type 0) (xs : List A) → ((x : A) → P 
 all-weaker P Q [] f h = tt
 all-weaker P Q (x ∷ xs) f h = (f x h.0, all-weaker P Q xs f h.1)
 
-pub all-of : {A : Type 0} (P : A → Type 0) (xs : List A) → ((x : A) → Member x xs → P x) → AllByRecursion P xs
+pub all-of : {A : Type 0} (P : A → Type 0) (xs : List A) → ((x : A) → In x xs → P x) → AllByRecursion P xs
 all-of P [] f = tt
-all-of P (x ∷ xs) f = (f x (inl refl), all-of P xs (λ y h. f y (inr h)))
+all-of P (x ∷ xs) f = (f x here, all-of P xs (λ y h. f y (there h)))
 
-pub all-at : {A : Type 0} (P : A → Type 0) (xs : List A) (x : A) → AllByRecursion P xs → Member x xs → P x
-all-at P [] x h m = absurd m
-all-at P (y ∷ ys) x h (inl e) = subst P (sym e) h.0
-all-at P (y ∷ ys) x h (inr m) = all-at P ys x h.1 m
+pub all-at : {A : Type 0} (P : A → Type 0) (xs : List A) (x : A) → AllByRecursion P xs → In x xs → P x
+all-at P [] x h m = elim m [ ]
+all-at P (y ∷ ys) x h m = elim (In-cases m) [ inl e ↦ subst P (sym e) h.0 | inr k ↦ all-at P ys x h.1 k ]
 
 range-above : (low a n : ℕ) → low < a → AllByRecursion (λ y. low < y) (range_with_len a n)
 range-above low a zero h = tt
@@ -51,12 +51,12 @@ pub rises-filter : (p : ℕ → Bool) (xs : List ℕ) → Rises xs → Rises (fi
 rises-filter p [] h = tt
 rises-filter p (x ∷ xs) h = rises-cond (p x) x (filter p xs) (all-filter (λ z. x < z) p xs h.0) (rises-filter p xs h.1)
 
-ordered-append : (xs ys : List (List ℕ)) → IsOrdered xs → IsOrdered ys → ((x y : List ℕ) → Member x xs → Member y ys → Before x y) → IsOrdered (xs ++ ys)
+ordered-append : (xs ys : List (List ℕ)) → IsOrdered xs → IsOrdered ys → ((x y : List ℕ) → In x xs → In y ys → Before x y) → IsOrdered (xs ++ ys)
 ordered-append [] ys h k f = k
-ordered-append (x ∷ xs) ys h k f = (before-all xs h.0, ordered-append xs ys h.1 k (λ a b m n. f a b (inr m) n))
+ordered-append (x ∷ xs) ys h k f = (before-all xs h.0, ordered-append xs ys h.1 k (λ a b m n. f a b (there m) n))
   where
     before-all : (zs : List (List ℕ)) → AllByRecursion (Before x) zs → AllByRecursion (Before x) (zs ++ ys)
-    before-all [] g = all-of (Before x) ys (λ y m. f x y (inl refl) m)
+    before-all [] g = all-of (Before x) ys (λ y m. f x y here m)
     before-all (z ∷ zs) g = (g.0, before-all zs g.1)
 
 ordered-cons : (c : ℕ) (xs : List (List ℕ)) → IsOrdered xs → IsOrdered (map (λ x. c ∷ x) xs)
@@ -68,24 +68,23 @@ ordered-cons c (x ∷ xs) h = (all-cons xs h.0, ordered-cons c xs h.1)
     all-cons (z ∷ zs) g = (inr (refl, g.0), all-cons zs g.1)
 
 -- lists that begin with rising numbers
-ordered-flat_map : (f : ℕ → List (List ℕ)) (cs : List ℕ) → Rises cs → ((c : ℕ) → IsOrdered (f c)) → ((c : ℕ) (x : List ℕ) → Member x (f c) → (rest : List ℕ) × (x ≡ c ∷ rest)) → IsOrdered (flat_map f cs)
+ordered-flat_map : (f : ℕ → List (List ℕ)) (cs : List ℕ) → Rises cs → ((c : ℕ) → IsOrdered (f c)) → ((c : ℕ) (x : List ℕ) → In x (f c) → (rest : List ℕ) × (x ≡ c ∷ rest)) → IsOrdered (flat_map f cs)
 ordered-flat_map f [] r h s = tt
 ordered-flat_map f (c ∷ cs) r h s =
     subst IsOrdered (sym (flat_map-cons f c cs)) (ordered-append (f c) (flat_map f cs) (h c) (ordered-flat_map f cs r.1 h s) first)
   where
-    first : (x y : List ℕ) → Member x (f c) → Member y (flat_map f cs) → Before x y
+    first : (x y : List ℕ) → In x (f c) → In y (flat_map f cs) → Before x y
     first x y m n =
         let a = s c x m in
-        let b = flat_map-member f y cs n in
+        let b = flat_map-In f cs n in
         let d = s b.0 y b.2 in
         let less : c < b.0 = all-at (λ z. c < z) cs b.0 r.0 b.1 in
         subst (λ u. Before u y) (sym a.1) (subst (Before (c ∷ a.0)) (sym d.1) (inl less))
 
-begins : (faces : List (List ℕ)) (more cell : ℕ) (chain : List ℕ) → Member chain (chains_from faces more cell) → (rest : List ℕ) × (chain ≡ cell ∷ rest)
-begins faces zero cell chain (inl e) = ([], e)
-begins faces zero cell chain (inr h) = absurd h
+begins : (faces : List (List ℕ)) (more cell : ℕ) (chain : List ℕ) → In chain (chains_from faces more cell) → (rest : List ℕ) × (chain ≡ cell ∷ rest)
+begins faces zero cell chain h = elim (In-cases h) [ inl e ↦ ([], e) | inr n ↦ elim n [ ] ]
 begins faces (suc more) cell chain h =
-    let r = map-member (λ c. cell ∷ c) chain (flat_map (chains_from faces more) (above faces cell)) h in (r.0, r.2)
+    let r = map-In (λ c. cell ∷ c) (flat_map (chains_from faces more) (above faces cell)) h in (r.0, r.2)
 
 ordered-chains_from : (faces : List (List ℕ)) (more cell : ℕ) → IsOrdered (chains_from faces more cell)
 ordered-chains_from faces zero cell = (tt, tt)

@@ -3,9 +3,10 @@ use Rattle.std.proofs.Common.{◌≡◌, ◌⊎◌, inl, inr, ℕ, suc, List, []
 use Rattle.std.specs.Str.{bytes_eq}
 use Rattle.std.proofs.lemmas.Slice.Eq.{bytes_eq-Decides}
 use Rattle.small_field.specs.Field.{Ops, IsField}
+use Rattle.number_lists.specs.Members.{In, here, there}
+use Rattle.number_lists.proofs.CallerLemmas.{In-cases}
 use Rattle.order_complex.specs.Chains.{chains_of}
 use Rattle.order_complex.specs.Cochains.{alternating, leave_out, value, coboundary_at, coboundary, zeros}
-use Rattle.order_complex.proofs.Members.{Member}
 use Rattle.order_complex.proofs.Chained.{leave_out-member}
 use Rattle.order_complex.proofs.Alternating.{around, around-around}
 
@@ -21,14 +22,17 @@ value-case g false b c r e (inl s) = absurd (let yes : bytes_eq b c ≡ true = (
 value-case g false b c r e (inr h) = h
 
 -- a cochain that is given by a function takes its values
-pub value-map : (g : List ℕ → ℕ) (chains : List (List ℕ)) (c : List ℕ) → Member c chains → value chains (map g chains) c ≡ g c
-value-map g [] c h = absurd h
-value-map g (b ∷ chains) c (inl s) = value-case g (bytes_eq b c) b c (value chains (map g chains) c) refl (inl s)
-value-map g (b ∷ chains) c (inr h) = value-case g (bytes_eq b c) b c (value chains (map g chains) c) refl (inr (value-map g chains c h))
+pub value-map : (g : List ℕ → ℕ) (chains : List (List ℕ)) (c : List ℕ) → In c chains → value chains (map g chains) c ≡ g c
+value-map g [] c h = elim h [ ]
+value-map g (b ∷ chains) c m =
+    elim (In-cases m) [
+      | inl s ↦ value-case g (bytes_eq b c) b c (value chains (map g chains) c) refl (inl s)
+      | inr h ↦ value-case g (bytes_eq b c) b c (value chains (map g chains) c) refl (inr (value-map g chains c h))
+    ]
 
-pub map-members : {A : Type 0} (g h : A → ℕ) (cs : List A) → ((c : A) → Member c cs → g c ≡ h c) → map g cs ≡ map h cs
+pub map-members : {A : Type 0} (g h : A → ℕ) (cs : List A) → ((c : A) → In c cs → g c ≡ h c) → map g cs ≡ map h cs
 map-members g h [] e = refl
-map-members g h (c ∷ cs) e = rw (e c (inl refl), map-members g h cs (λ d m. e d (inr m))) refl
+map-members g h (c ∷ cs) e = rw (e c here, map-members g h cs (λ d m. e d (there m))) refl
 
 map-zero : {A : Type 0} (cs : List A) → map {B = ℕ} (λ c. 0) cs ≡ replicate (length cs) 0
 map-zero [] = refl
@@ -43,7 +47,7 @@ module _ (F : Ops) (L : IsField F) where
       next : List (List ℕ)
       next = chains_of space (suc degree)
 
-      at : (c : List ℕ) → Member c (chains_of space (suc (suc degree))) → coboundary_at F (chains_of space (suc degree)) (coboundary F space degree x) c ≡ 0
+      at : (c : List ℕ) → In c (chains_of space (suc (suc degree))) → coboundary_at F (chains_of space (suc degree)) (coboundary F space degree x) c ≡ 0
       at c h =
           ap (alternating F)
           (map-members (value (chains_of space (suc degree)) (coboundary F space degree x)) (around F (value (chains_of space degree) x)) (leave_out c)

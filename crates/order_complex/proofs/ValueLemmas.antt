@@ -1,5 +1,5 @@
 -- Values of cochains by the numbers of chains.
-use Rattle.std.proofs.Common.{◌≡◌, inl, inr, ℕ, suc, ◌+◌, ◌-◌, ◌<◌, ◌≤◌, List, [], ◌∷◌, ◌++◌, Bool, true, false, cond, map, reverse, take, length, get_or, Some, None, refl, ap, sym, ◌∙◌, subst, arith}
+use Rattle.std.proofs.Common.{◌≡◌, ℕ, suc, ◌+◌, ◌-◌, ◌<◌, ◌≤◌, List, [], ◌∷◌, ◌++◌, Bool, true, false, cond, map, reverse, take, length, get_or, Some, None, refl, ap, sym, ◌∙◌, subst, arith}
 use Rattle.std.specs.Prelude.{option_map}
 use Rattle.std.specs.declared.option.Option.{Option}
 use Rattle.std.specs.Str.{bytes_eq}
@@ -7,20 +7,21 @@ use Rattle.std.proofs.lemmas.List.{take_more, reverse-append}
 use Rattle.std.proofs.lemmas.Bool.{le-leb}
 use Rattle.small_field.specs.Field.{Ops}
 use Rattle.face_poset.specs.Poset.{facets_of}
+use Rattle.number_lists.specs.Members.{In, here, there}
+use Rattle.number_lists.proofs.CallerLemmas.{at-In}
 use Rattle.order_complex.specs.Order.{IsOrdered}
 use Rattle.order_complex.specs.Chains.{chains_of}
 use Rattle.order_complex.specs.Cochains.{alternating, leave_out, value, coboundary_at}
 use Rattle.order_complex.specs.Complex.{number_in, position_of, number_or_zero, complex_of}
-use Rattle.order_complex.proofs.Members.{Member}
 use Rattle.order_complex.proofs.Chained.{chains_of-member, leave_out-member}
 use Rattle.order_complex.proofs.Ordered.{ordered-chains_of}
-use Rattle.order_complex.proofs.Graded.{member-at, placed, facets-are}
+use Rattle.order_complex.proofs.Graded.{placed, facets-are}
 use Rattle.order_complex.proofs.Cancel.{reverse-reverse, complex-facets}
 use Rattle.order_complex.proofs.Numbers.{number-at}
 
 pub chain-long : (space : List (List (List ℕ))) (degree place : ℕ) → place < length (chains_of space degree) → length (get_or (chains_of space degree) place []) ≡ degree + 1
 chain-long space degree place l =
-    let c = chains_of-member space degree (get_or (chains_of space degree) place []) (member-at (chains_of space degree) place [] l) in
+    let c = chains_of-member space degree (get_or (chains_of space degree) place []) (at-In (chains_of space degree) place [] l) in
     ap (λ (x : List ℕ). length x) c.is ∙ omega (arith, c.long)
 
 -- ---- the value by the number
@@ -84,11 +85,11 @@ map_map : (g : ℕ → ℕ) (f : List ℕ → ℕ) (xs : List (List ℕ)) → ma
 map_map g f [] = refl
 map_map g f (x ∷ xs) = ap (λ r. g (f x) ∷ r) (map_map g f xs)
 
-map-members : (g h : List ℕ → ℕ) (cs : List (List ℕ)) → ((c : List ℕ) → Member c cs → g c ≡ h c) → map g cs ≡ map h cs
+map-members : (g h : List ℕ → ℕ) (cs : List (List ℕ)) → ((c : List ℕ) → In c cs → g c ≡ h c) → map g cs ≡ map h cs
 map-members g h [] e = refl
-map-members g h (c ∷ cs) e = rw (e c (inl refl), map-members g h cs (λ d m. e d (inr m))) refl
+map-members g h (c ∷ cs) e = rw (e c here, map-members g h cs (λ d m. e d (there m))) refl
 
-value-member : (chains : List (List ℕ)) (xs b : List ℕ) (space : List (List (List ℕ))) (degree : ℕ) → chains ≡ chains_of space degree → length xs ≡ length chains → Member b chains → get_or xs (number_or_zero chains b - 1) 0 ≡ value chains xs b
+value-member : (chains : List (List ℕ)) (xs b : List ℕ) (space : List (List (List ℕ))) (degree : ℕ) → chains ≡ chains_of space degree → length xs ≡ length chains → In b chains → get_or xs (number_or_zero chains b - 1) 0 ≡ value chains xs b
 value-member chains xs b space degree e l m =
     let o = subst IsOrdered (sym e) (ordered-chains_of space degree) in
     let p = placed chains b o m in
@@ -109,7 +110,7 @@ module _ (F : Ops) (space : List (List (List ℕ))) where
       at high =
           let chains : List (List ℕ) = chains_of space degree in
           let chain : List ℕ = get_or (chains_of space (suc degree)) (cell - 1) [] in
-          let m : Member chain (chains_of space (suc degree)) = member-at (chains_of space (suc degree)) (cell - 1) [] (omega arith) in
+          let m : In chain (chains_of space (suc degree)) = at-In (chains_of space (suc degree)) (cell - 1) [] (omega arith) in
           ap (λ fs. alternating F (map (λ n. get_or x (n - 1) 0) (reverse fs))) (complex-facets space degree cell small first high)
           ∙ ap (λ ns. alternating F (map (λ n. get_or x (n - 1) 0) ns)) (reverse-reverse (map (number_or_zero chains) (leave_out chain)))
           ∙ ap (alternating F) (map_map (λ n. get_or x (n - 1) 0) (number_or_zero chains) (leave_out chain)
@@ -128,7 +129,7 @@ module _ (F : Ops) (space : List (List (List ℕ))) where
           → (1 ≤ get_or (facets_of (complex_of space) (suc degree) cell) i 0) × (get_or (facets_of (complex_of space) (suc degree) cell) i 0 ≤ length (chains_of space degree))
       at high b =
           let chain : List ℕ = get_or (chains_of space (suc degree)) (cell - 1) [] in
-          let m : Member chain (chains_of space (suc degree)) = member-at (chains_of space (suc degree)) (cell - 1) [] (omega arith) in
+          let m : In chain (chains_of space (suc degree)) = at-In (chains_of space (suc degree)) (cell - 1) [] (omega arith) in
           let e = complex-facets space degree cell small first high in
           let c = facets-are space degree chain m in
           subst (λ fs. (1 ≤ get_or fs i 0) × (get_or fs i 0 ≤ length (chains_of space degree))) (sym e) (c.within i 0 (subst (λ (fs : List ℕ). i < length fs) e b))

@@ -1,4 +1,6 @@
--- The lexicographic order of sequences.
+-- The lexicographic order of sequences of numbers.
+--   Before xs ys      xs comes before ys: a proper prefix first, else the smaller number at the first difference
+--   IsOrdered chains  each comes before all that follow it, so that none stands twice
 use Rattle.std.specs.Prelude.{◌≡◌, ℕ, ◌<◌, ◌⊎◌, ⊤, List, [], ◌∷◌}
 use Rattle.std.specs.List.{AllByRecursion}
 

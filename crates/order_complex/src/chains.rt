@@ -1,18 +1,17 @@
 // All chains of the order complex of a space.
-ghost use Rattle.std.specs.Prelude.{◌≡◌, ◌≤◌, ◌+◌, ◌-◌, [], All, length, reverse, slice_index_or, IfOk, IfErr, OnOk};
-ghost use Rattle.face_poset.specs.Poset.{IsSpace, coface_layers};
-ghost use Rattle.order_complex.specs.Order.{IsOrdered};
+ghost use Rattle.std.specs.Prelude.{◌≡◌, ◌≤◌, ◌+◌, ◌-◌, [], length, reverse, slice_index_or, IfOk, IfErr, OnOk};
 ghost use Rattle.order_complex.specs.Chains.{chains_of, chain_count};
-ghost use Rattle.order_complex.specs.Complex.{complex_of, facet_layers, last_of, negative_in, position_of, stands_odd, HasId, IsRefused};
+ghost use Rattle.order_complex.specs.Complex.{chain_layers, complex_of, last_of, negative_in, position_of, stands_odd, stored_cofaces, stored_facets, HasId, IsRefused};
 
+use crate::coface_lists::CofaceLists;
+use crate::counts::ChainCounts;
 use crate::faces::cell_of_id;
-use crate::facets::{facets_in, without_facets};
+use crate::facets::FacetLists;
 use crate::fault::ChainFault;
-use crate::layers::Layers;
+use crate::listing::ChainLists;
 use crate::searching::find_chain;
 use crate::uppers::Uppers;
 use face_poset::{Cell, Graded, Signed, Space};
-use number_lists::{Lists, cofaces_in};
 use std::alloc::{AllocError, Global};
 use std::marker::Model;
 
@@ -23,48 +22,23 @@ use std::marker::Model;
 #[derive(Drop)]
 pub struct Chains<'a> {
     space: &'a Space,
-    chains: Layers,
-    facets: Layers,
-    cofaces: Layers,
+    chains: ChainLists,
+    facets: FacetLists,
+    cofaces: CofaceLists,
 }
 
 impl<'a> Model for Chains<'a> {
     ghost use Rattle.std.specs.Prelude.{◌≡◌, ◌≤◌, List, ℕ};
-    ghost use Rattle.face_poset.specs.Poset.{coface_layers};
+    ghost use Rattle.face_poset.specs.Poset.{Layers};
     ghost use Rattle.order_complex.specs.Chains.{chain_count};
-    ghost use Rattle.order_complex.specs.Complex.{complex_of, chain_layers};
+    ghost use Rattle.order_complex.specs.Complex.{chain_layers, stored_cofaces, stored_facets};
 
-    ghost Value = { List (List (List ℕ)) };
+    ghost Value = { Layers };
 
     ghost view = { λ s. s.space.now };
 
     ghost invariant = { λ s.
-        (s.chains ≡ chain_layers s.space.now) × (s.facets ≡ complex_of s.space.now) × (s.cofaces ≡ coface_layers (complex_of s.space.now)) × (chain_count s.space.now ≤ 4294967295) };
-}
-
-/// The facets of the chains of each degree, by their numbers.
-fn list_facets(alloc: Global, chains: &Layers) -> Result<Layers, AllocError>
-    requires ordered { All IsOrdered chains.now }
-    requires few { All (λ list. length list ≤ 4294967295) chains.now }
-    ensures { IfOk result (λ facets. facets ≡ facet_layers chains.now) }
-{
-    let points = without_facets(alloc, chains.layer(0))?;
-    let edges = facets_in(alloc, chains.layer(0), chains.layer(1))?;
-    let triangles = facets_in(alloc, chains.layer(1), chains.layer(2))?;
-    let tetrahedra = facets_in(alloc, chains.layer(2), chains.layer(3))?;
-    Ok(Layers::new(points, edges, triangles, tetrahedra))
-}
-
-/// The cofaces of the chains of each degree.
-fn list_cofaces(alloc: Global, facets: &Layers) -> Result<Layers, AllocError>
-    requires valid { IsSpace facets.now }
-    ensures { IfOk result (λ cofaces. cofaces ≡ coface_layers facets.now) }
-{
-    let above_points = cofaces_in(alloc, facets.layer(0).len(), facets.layer(1))?;
-    let above_edges = cofaces_in(alloc, facets.layer(1).len(), facets.layer(2))?;
-    let above_triangles = cofaces_in(alloc, facets.layer(2).len(), facets.layer(3))?;
-    let above_tetrahedra = cofaces_in(alloc, facets.layer(3).len(), &Lists::new(alloc))?;
-    Ok(Layers::new(above_points, above_edges, above_triangles, above_tetrahedra))
+        (s.chains ≡ chain_layers s.space.now) × (s.facets ≡ stored_facets s.space.now) × (s.cofaces ≡ stored_cofaces s.space.now) × (chain_count s.space.now ≤ 4294967295) };
 }
 
 impl<'a> Chains<'a> {
@@ -74,34 +48,22 @@ impl<'a> Chains<'a> {
         ensures within { OnOk result (chain_count space.entry.now ≤ limit) }
         ensures refused { IfErr result (IsRefused (chain_count space.entry.now) limit) }
     {
-        let Ok(uppers) = Uppers::new(alloc, space) else {
-            return Err(ChainFault::Memory);
-        };
-        let Ok(count) = uppers.count(alloc) else {
-            return Err(ChainFault::Memory);
-        };
-        if count > u64::from(limit) {
-            return Err(ChainFault::TooManyChains(count));
-        }
-        match Chains::of_uppers(alloc, space, &uppers) {
+        let _counts = ChainCounts::new(alloc, space, limit)?;
+        match Chains::list(alloc, space) {
             Ok(chains) => Ok(chains),
             Err(_) => Err(ChainFault::Memory),
         }
     }
 
     /// The chains of a space, of which there are few enough.
-    fn of_uppers(
-        alloc: Global,
-        space: &'a Space,
-        uppers: &Uppers<'_>,
-    ) -> Result<Chains<'a>, AllocError>
-        requires same { uppers.now ≡ space.now }
-        requires few { chain_count space.now ≤ 4294967295 }
+    fn list(alloc: Global, space: &'a Space) -> Result<Chains<'a>, AllocError>
+        requires { chain_count space.now ≤ 4294967295 }
         ensures { IfOk result (λ chains. chains ≡ space.entry.now) }
     {
+        let uppers = Uppers::new(alloc, space)?;
         let chains = uppers.chains(alloc)?;
-        let facets = list_facets(alloc, &chains)?;
-        let cofaces = list_cofaces(alloc, &facets)?;
+        let facets = FacetLists::new(alloc, &uppers, &chains)?;
+        let cofaces = CofaceLists::new(alloc, &chains, &facets)?;
         Ok(Chains {
             space,
             chains,
@@ -115,7 +77,7 @@ impl<'a> Chains<'a> {
         requires { degree ≤ 3 }
         ensures { result ≡ length (chains_of self.now degree) }
     {
-        self.chains.layer(degree).len() as u32
+        self.chains.len(degree) as u32
     }
 
     /// The ids of the cells of a chain, which is numbered from 1 in its degree.
@@ -126,7 +88,7 @@ impl<'a> Chains<'a> {
         ensures chain { result.now ≡ slice_index_or (chains_of self.now degree) (number - 1) [] }
         ensures long { length result.now ≡ degree + 1 }
     {
-        self.chains.layer(degree).get(number as usize - 1)
+        self.chains.get(degree, number as usize - 1)
     }
 
     /// The number of the chain with these ids, counted from 1 in its degree, or none where they are no chain.
@@ -137,7 +99,7 @@ impl<'a> Chains<'a> {
             return None;
         }
         let degree = ids.len() as u8 - 1;
-        match find_chain(self.chains.layer(degree), ids) {
+        match find_chain(&self.chains, degree, ids) {
             Some(place) => Some(place as u32 + 1),
             None => None,
         }
@@ -162,16 +124,25 @@ impl<'a> Graded for Chains<'a> {
         if dim > 3 {
             0
         } else {
-            self.facets.layer(dim).len() as u32
+            self.chains.len(dim) as u32
         }
     }
 
     fn facets(&self, dim: u8, cell: u32) -> &[u32] {
-        self.facets.layer(dim).get(cell as usize - 1)
+        match dim {
+            0 => &[],
+            1 => self.chains.get(1, cell as usize - 1),
+            2 => &self.facets.triangles()[cell as usize - 1],
+            _ => &self.facets.tetrahedra()[cell as usize - 1],
+        }
     }
 
     fn cofaces(&self, dim: u8, cell: u32) -> &[u32] {
-        self.cofaces.layer(dim).get(cell as usize - 1)
+        if dim > 2 {
+            &[]
+        } else {
+            self.cofaces.get(dim, cell as usize - 1)
+        }
     }
 }
 

@@ -35,7 +35,7 @@ fn id_of_cell(space: &Space, cell: Cell) -> u32
 }
 
 /// The ids of the faces of a cell, without the cell itself.
-fn face_ids(alloc: Global, space: &Space, dim: u8, number: u32) -> Result<Vec<u32>, AllocError>
+pub fn face_ids(alloc: Global, space: &Space, dim: u8, number: u32) -> Result<Vec<u32>, AllocError>
     requires dim { dim ≤ 3 }
     requires first { 1 ≤ number }
     requires last { number ≤ count space.now dim }

@@ -3,11 +3,12 @@
 
 mod betti;
 mod chains;
+mod coface_lists;
+mod counts;
 mod faces;
 mod facets;
 mod fault;
 mod laws;
-mod layers;
 mod listing;
 mod searching;
 mod uppers;
@@ -15,6 +16,7 @@ mod values;
 
 pub use betti::Betti;
 pub use chains::Chains;
+pub use counts::ChainCounts;
 pub use fault::ChainFault;
 pub use laws::{
     betti_by_ranks, betti_is_one_number, boundaries_are_cycles, boundary_alternates,

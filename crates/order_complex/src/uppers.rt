@@ -1,11 +1,12 @@
 // The cells above each cell of a space, and the chains by them.
-ghost use Rattle.std.specs.Prelude.{◌≡◌, IfOk};
-ghost use Rattle.order_complex.specs.Chains.{chain_count};
+ghost use Rattle.std.specs.Prelude.{◌≡◌, ◌≤◌, ◌-◌, [], length, slice_index_or, IfOk};
+ghost use Rattle.std.specs.List.{flat_map};
+ghost use Rattle.face_poset.specs.Poset.{cell_count};
 ghost use Rattle.order_complex.specs.Complex.{chain_layers};
+ghost use Rattle.order_complex.specs.Listing.{extensions, first_places, uppers_of, AreWalks};
 
 use crate::faces::faces_in;
-use crate::layers::Layers;
-use crate::listing::{count_chains, extended, single_cells};
+use crate::listing::{ChainLists, list_edges, list_points, list_tetrahedra, list_triangles};
 use face_poset::Space;
 use number_lists::{Lists, cofaces_in};
 use std::alloc::{AllocError, Global};
@@ -20,10 +21,10 @@ pub struct Uppers<'a> {
 
 impl<'a> Model for Uppers<'a> {
     ghost use Rattle.std.specs.Prelude.{◌≡◌, ◌≤◌, List, ℕ};
-    ghost use Rattle.face_poset.specs.Poset.{cell_count};
+    ghost use Rattle.face_poset.specs.Poset.{Layers, cell_count};
     ghost use Rattle.order_complex.specs.Listing.{uppers_of};
 
-    ghost Value = { List (List (List ℕ)) };
+    ghost Value = { Layers };
 
     ghost view = { λ u. u.space.now };
 
@@ -39,21 +40,43 @@ impl<'a> Uppers<'a> {
         Ok(Uppers { space, lists })
     }
 
-    /// How many chains there are.
-    pub fn count(&self, alloc: Global) -> Result<u64, AllocError>
-        ensures { IfOk result (λ count. count ≡ chain_count self.now) }
+    /// The ids of the cells above the cell with an id.
+    pub fn above(&self, id: u32) -> &[u32]
+        requires first { 1 ≤ id }
+        requires last { id ≤ cell_count self.now }
+        ensures { result.now ≡ slice_index_or (uppers_of self.now) (id - 1) [] }
     {
-        count_chains(alloc, &self.lists)
+        self.lists.get(id as usize - 1)
     }
 
     /// The chains of each degree.
-    pub fn chains(&self, alloc: Global) -> Result<Layers, AllocError>
+    pub fn chains(&self, alloc: Global) -> Result<ChainLists, AllocError>
         ensures { IfOk result (λ chains. chains ≡ chain_layers self.now) }
     {
-        let points = single_cells(alloc, self.lists.len())?;
-        let edges = extended(alloc, &points, &self.lists)?;
-        let triangles = extended(alloc, &edges, &self.lists)?;
-        let tetrahedra = extended(alloc, &triangles, &self.lists)?;
-        Ok(Layers::new(points, edges, triangles, tetrahedra))
+        let points = list_points(alloc, self.lists.len())?;
+        let edges = list_edges(alloc, &points, &self.lists)?;
+        let triangles = list_triangles(alloc, &edges, &self.lists)?;
+        let tetrahedra = list_tetrahedra(alloc, &triangles, &self.lists)?;
+        Ok(ChainLists::new(points, edges, triangles, tetrahedra))
+    }
+
+    /// For each of these chains, how many chains with one cell more come before those that it begins.
+    pub fn first_places<const W: usize>(
+        &self,
+        alloc: Global,
+        chains: &[[u32; W]],
+    ) -> Result<Vec<u32>, AllocError>
+        requires walks { AreWalks (uppers_of self.now) chains.now }
+        requires few { length (flat_map (extensions (uppers_of self.now)) chains.now) ≤ 4294967295 }
+        ensures { IfOk result (λ places. places.items ≡ first_places (uppers_of self.now) chains.now) }
+    {
+        let mut places = Vec::new(alloc);
+        let mut total: u32 = 0;
+        for index in 0..chains.len() {
+            places.push(total)?;
+            let chain: &[u32] = &chains[index];
+            total += self.above(chain[chain.len() - 1]).len() as u32;
+        }
+        Ok(places)
     }
 }

@@ -1,9 +1,9 @@
 // Values of coboundaries, boundaries and cup products.
-ghost use Rattle.std.specs.Prelude.{◌≡◌, ◌+◌, ◌-◌, ◌≤◌, [], Contains, cond, length, slice_index, slice_index_or};
+ghost use Rattle.std.specs.Prelude.{◌≡◌, ◌+◌, ◌-◌, ◌≤◌, [], Contains, cond, length, take, drop, slice_index, slice_index_or};
 ghost use Rattle.face_poset.specs.Poset.{facets_of};
 ghost use Rattle.order_complex.specs.Chains.{chains_of};
-ghost use Rattle.order_complex.specs.Cochains.{boundary, coboundary_at as coboundary_value, value as chain_value};
-ghost use Rattle.order_complex.specs.Complex.{complex_of, negative_in};
+ghost use Rattle.order_complex.specs.Cochains.{boundary, coboundary_at as coboundary_value};
+ghost use Rattle.order_complex.specs.Complex.{complex_of, negative_in, IsNumbered};
 ghost use Rattle.order_complex.specs.Cup.{cup_at as cup_value};
 
 use crate::chains::Chains;
@@ -62,17 +62,35 @@ impl<'a> Chains<'a> {
         total
     }
 
-    /// The value of a cochain of a degree on the chain with these ids, or 0 where they are no chain of the degree.
-    fn value_at<F: Field>(&self, degree: u8, x: &Cochain<F>, ids: &[u32]) -> F
+    /// The number of a chain without its last cells, so many, among the chains of its degree.
+    fn front(&self, degree: u8, chain: u32, less: u8) -> u32
         requires degree { degree ≤ 3 }
-        requires cells { length ids.now ≡ degree + 1 }
-        requires cochain { length x.now ≡ length (chains_of self.now degree) }
-        ensures { F.number_of result ≡ chain_value (chains_of self.now degree) x.now ids.now }
+        requires less { less ≤ degree }
+        requires first { 1 ≤ chain }
+        requires last { chain ≤ length (chains_of self.now degree) }
+        ensures { IsNumbered self.now (degree - less) result (take (degree - less + 1) (slice_index_or (chains_of self.now degree) (chain - 1) [])) }
     {
-        match self.position(ids) {
-            Some(number) => x.get(number),
-            None => F::zero(),
+        let mut number = chain;
+        for step in 0..less {
+            number = self.facets(degree - step, number)[0];
         }
+        number
+    }
+
+    /// The number of a chain without its first cells, so many, among the chains of its degree.
+    fn back(&self, degree: u8, chain: u32, less: u8) -> u32
+        requires degree { degree ≤ 3 }
+        requires less { less ≤ degree }
+        requires first { 1 ≤ chain }
+        requires last { chain ≤ length (chains_of self.now degree) }
+        ensures { IsNumbered self.now (degree - less) result (drop less (slice_index_or (chains_of self.now degree) (chain - 1) [])) }
+    {
+        let mut number = chain;
+        for step in 0..less {
+            let facets = self.facets(degree - step, number);
+            number = facets[facets.len() - 1];
+        }
+        number
     }
 
     /// The product of x on the first i + 1 cells of a chain of degree i + j, which is numbered from 1, and y on its last
@@ -85,9 +103,8 @@ impl<'a> Chains<'a> {
         requires last { chain ≤ length (chains_of self.now (i + j)) }
         ensures { F.number_of result ≡ cup_value F.ops i (chains_of self.now i) x.now (chains_of self.now j) y.now (slice_index_or (chains_of self.now (i + j)) (chain - 1) []) }
     {
-        let ids = self.chain(i + j, chain);
-        let front = &ids[..i as usize + 1];
-        let back = &ids[i as usize..];
-        self.value_at(i, x, front).mul(self.value_at(j, y, back))
+        let front = self.front(i + j, chain, j);
+        let back = self.back(i + j, chain, i);
+        x.get(front).mul(y.get(back))
     }
 }

@@ -5,12 +5,12 @@ use Rattle.std.proofs.lemmas.List.FromFn.{length-map-range_with_len, get_or-map-
 use Rattle.small_field.specs.Field.{Ops, IsField}
 use Rattle.face_poset.specs.Words.{upto, holds}
 use Rattle.face_poset.specs.Poset.{count, facets_of}
-use Rattle.number_lists.proofs.CallerLemmas.{length-upto}
+use Rattle.number_lists.proofs.CallerLemmas.{length-upto, at-In}
 use Rattle.order_complex.specs.Chains.{chains_of}
 use Rattle.order_complex.specs.Cochains.{leave_out, mark, coboundary_at, coboundary_on}
 use Rattle.order_complex.specs.Complex.{number_or_zero, facet_numbers, facet_lists, complex_of, stands_odd, negative_in}
 use Rattle.order_complex.specs.Ranks.{rows_on, rows_of}
-use Rattle.order_complex.proofs.CallerLemmas.{chains_of-four, member-at, holds-reverse, weight, coboundary-mark, count-chains, layer-facets, number-of}
+use Rattle.order_complex.proofs.CallerLemmas.{chains_of-four, holds-reverse, weight, coboundary-mark, count-chains, layer-facets, number-of}
 use Rattle.critical_complex.specs.Signed.{signed_entry, signed_rows}
 
 nothings : {A B : Type 0} (xs : List A) (ys : List B) → length xs ≡ length ys → map {B = List ℕ} (λ x. []) xs ≡ map (λ y. []) ys
@@ -37,7 +37,7 @@ module _ (F : Ops) (L : IsField F) (space : List (List (List ℕ))) where
       let up : suc degree ≡ degree + 1 = omega arith in
       let number : number_or_zero chains b ≡ i + 1 = ap (λ k. number_or_zero chains (get_or chains k [])) (sym same) ∙ number-of space degree (i + 1) (omega arith) (omega arith) in
       get_or-map (coboundary_at F chains (mark chains b)) next j [] d lj
-      ∙ coboundary-mark space F L degree (i + 1) b c (member-at chains i [] li) (member-at next j [] lj) number
+      ∙ coboundary-mark space F L degree (i + 1) b c (at-In chains i [] li) (at-In next j [] lj) number
       ∙ ap (λ t. weight F t (stands_odd ms (i + 1))) (sym (holds-reverse (i + 1) ms) ∙ ap (λ fs. holds fs (i + 1)) (sym (get_or-map (facet_numbers chains) next j [] [] lj)))
       ∙ ap (λ k. weight F (holds (get_or (facet_lists space (suc degree)) k []) (i + 1)) (stands_odd (map (number_or_zero chains) (leave_out (get_or next k []))) (i + 1))) place
       ∙ ap (λ (fs : List (List ℕ)). weight F (holds (get_or fs (j + 1 - 1) []) (i + 1)) (negative_in space (suc degree) (j + 1) (i + 1))) (sym (layer-facets space degree small))

@@ -37,16 +37,16 @@ nowhere chains ids low high n le i l e =
 
 pub halves-preserved-in-Less : goal.halves-preserved-in-Less
 halves-preserved-in-Less c =
-    go_right c.args.chains.now c.args.ids.now c.halves.low c.halves.high (c.halves.low + (c.halves.high - c.halves.low) / 2) c.requires c.halves.invariant (search rules)
+    go_right (get_or c.args.chains.now c.args.degree []) c.args.ids.now c.halves.low c.halves.high (c.halves.low + (c.halves.high - c.halves.low) / 2) c.requires.ordered c.halves.invariant (search rules)
     (subst (λ x. Before x c.args.ids.now) c.get.ensures (compared c.get.result.now c.args.ids.now Less c.in-Less.ensures))
 
 pub halves-preserved : goal.halves-preserved
 halves-preserved c =
-    go_left c.args.chains.now c.args.ids.now c.halves.low c.halves.high (c.halves.low + (c.halves.high - c.halves.low) / 2) c.requires c.halves.invariant (search rules)
+    go_left (get_or c.args.chains.now c.args.degree []) c.args.ids.now c.halves.low c.halves.high (c.halves.low + (c.halves.high - c.halves.low) / 2) c.requires.ordered c.halves.invariant (search rules)
     (subst (λ x. Before c.args.ids.now x) c.get.ensures (compared c.get.result.now c.args.ids.now Greater c.in-Greater.ensures))
 
 pub returns-in-Equal-clause-found : goal.returns-in-Equal-clause-found
 returns-in-Equal-clause-found c = sym c.get.ensures ∙ compared c.get.result.now c.args.ids.now Equal c.in-Equal.ensures
 
 pub returns-clause-none : goal.returns-clause-none
-returns-clause-none c = λ e. nowhere c.args.chains.now c.args.ids.now c.halves.low c.halves.high c.halves.invariant (search rules)
+returns-clause-none c = λ e. nowhere (get_or c.args.chains.now c.args.degree []) c.args.ids.now c.halves.low c.halves.high c.halves.invariant (search rules)

@@ -9,7 +9,7 @@ pub record Narrowed (chains : List (List ℕ)) (ids : List ℕ) (low high : ℕ)
   pub right : (i : ℕ) → high ≤ i → i < length chains → Before ids (get_or chains i [])
 
 abbrev pub invariant-halves : goal.invariant-halves
-invariant-halves l = Narrowed l.chains l.ids l.low l.high
+invariant-halves l = Narrowed (get_or l.chains l.degree []) l.ids l.low l.high
 
 abbrev pub decreases-halves : goal.decreases-halves
 decreases-halves l = l.high - l.low

@@ -5,63 +5,30 @@ use Rattle.order_complex.proofs.Extended.{length-uppers_of}
 use Rattle.order_complex.proofs.ChainBounds.{walks, points-are, next-are}
 use Rattle.order_complex.proofs.uppers.Uppers.chains.Goals as goal
 
-pub single_cells-requires : goal.single_cells-requires
-single_cells-requires c =
+pub list_points-requires : goal.list_points-requires
+list_points-requires c =
     omega (arith, c.len.ensures, ap (λ (xs : List (List ℕ)). length xs) c.self.invariant.0, length-uppers_of c.self.inside.space.now, c.self.invariant.1)
 
-pub extended-requires-clause-some : goal.extended-requires-clause-some
-extended-requires-clause-some c =
-    (walks c.self.inside.space.now c.self.inside.lists c.in_ok-points.points 0 c.self.invariant.0
-    (points-are c.self.inside.space.now c.self.inside.lists c.in_ok-points.points c.len.result c.self.invariant.0 c.len.ensures c.in_ok-points.ensures)).some
+pub list_edges-requires : goal.list_edges-requires
+list_edges-requires c =
+    let points = points-are c.self.inside.space.now c.self.inside.lists c.in_ok-points.points.items c.len.result c.self.invariant.0 c.len.ensures c.in_ok-points.ensures in
+    let w = walks c.self.inside.space.now c.self.inside.lists c.deref.result.now 0 c.self.invariant.0 (c.deref.ensures.value ∙ points) in
+    record { some = w.some; first = w.first; last = w.last }
 
-pub extended-requires-clause-first : goal.extended-requires-clause-first
-extended-requires-clause-first c =
-    (walks c.self.inside.space.now c.self.inside.lists c.in_ok-points.points 0 c.self.invariant.0
-    (points-are c.self.inside.space.now c.self.inside.lists c.in_ok-points.points c.len.result c.self.invariant.0 c.len.ensures c.in_ok-points.ensures)).first
+pub list_triangles-requires : goal.list_triangles-requires
+list_triangles-requires c =
+    let points = points-are c.self.inside.space.now c.self.inside.lists c.in_ok-points.points.items c.len.result c.self.invariant.0 c.len.ensures c.in_ok-points.ensures in
+    let edges = next-are c.self.inside.space.now c.self.inside.lists c.deref.result.now c.in_ok-edges.edges.items 0 c.self.invariant.0 (c.deref.ensures.value ∙ points) c.in_ok-edges.ensures in
+    let w = walks c.self.inside.space.now c.self.inside.lists c.deref-2.result.now 1 c.self.invariant.0 (c.deref-2.ensures.value ∙ edges) in
+    record { some = w.some; first = w.first; last = w.last }
 
-pub extended-requires-clause-last : goal.extended-requires-clause-last
-extended-requires-clause-last c =
-    (walks c.self.inside.space.now c.self.inside.lists c.in_ok-points.points 0 c.self.invariant.0
-    (points-are c.self.inside.space.now c.self.inside.lists c.in_ok-points.points c.len.result c.self.invariant.0 c.len.ensures c.in_ok-points.ensures)).last
-
-pub extended-requires-2-clause-some : goal.extended-requires-2-clause-some
-extended-requires-2-clause-some c =
-    (walks c.self.inside.space.now c.self.inside.lists c.in_ok-edges.edges 1 c.self.invariant.0
-    (next-are c.self.inside.space.now c.self.inside.lists c.in_ok-points.points c.in_ok-edges.edges 0 c.self.invariant.0
-    (points-are c.self.inside.space.now c.self.inside.lists c.in_ok-points.points c.len.result c.self.invariant.0 c.len.ensures c.in_ok-points.ensures) c.in_ok-edges.ensures)).some
-
-pub extended-requires-2-clause-first : goal.extended-requires-2-clause-first
-extended-requires-2-clause-first c =
-    (walks c.self.inside.space.now c.self.inside.lists c.in_ok-edges.edges 1 c.self.invariant.0
-    (next-are c.self.inside.space.now c.self.inside.lists c.in_ok-points.points c.in_ok-edges.edges 0 c.self.invariant.0
-    (points-are c.self.inside.space.now c.self.inside.lists c.in_ok-points.points c.len.result c.self.invariant.0 c.len.ensures c.in_ok-points.ensures) c.in_ok-edges.ensures)).first
-
-pub extended-requires-2-clause-last : goal.extended-requires-2-clause-last
-extended-requires-2-clause-last c =
-    (walks c.self.inside.space.now c.self.inside.lists c.in_ok-edges.edges 1 c.self.invariant.0
-    (next-are c.self.inside.space.now c.self.inside.lists c.in_ok-points.points c.in_ok-edges.edges 0 c.self.invariant.0
-    (points-are c.self.inside.space.now c.self.inside.lists c.in_ok-points.points c.len.result c.self.invariant.0 c.len.ensures c.in_ok-points.ensures) c.in_ok-edges.ensures)).last
-
-pub extended-requires-3-clause-some : goal.extended-requires-3-clause-some
-extended-requires-3-clause-some c =
-    (walks c.self.inside.space.now c.self.inside.lists c.in_ok-triangles.triangles 2 c.self.invariant.0
-    (next-are c.self.inside.space.now c.self.inside.lists c.in_ok-edges.edges c.in_ok-triangles.triangles 1 c.self.invariant.0
-    (next-are c.self.inside.space.now c.self.inside.lists c.in_ok-points.points c.in_ok-edges.edges 0 c.self.invariant.0
-    (points-are c.self.inside.space.now c.self.inside.lists c.in_ok-points.points c.len.result c.self.invariant.0 c.len.ensures c.in_ok-points.ensures) c.in_ok-edges.ensures) c.in_ok-triangles.ensures)).some
-
-pub extended-requires-3-clause-first : goal.extended-requires-3-clause-first
-extended-requires-3-clause-first c =
-    (walks c.self.inside.space.now c.self.inside.lists c.in_ok-triangles.triangles 2 c.self.invariant.0
-    (next-are c.self.inside.space.now c.self.inside.lists c.in_ok-edges.edges c.in_ok-triangles.triangles 1 c.self.invariant.0
-    (next-are c.self.inside.space.now c.self.inside.lists c.in_ok-points.points c.in_ok-edges.edges 0 c.self.invariant.0
-    (points-are c.self.inside.space.now c.self.inside.lists c.in_ok-points.points c.len.result c.self.invariant.0 c.len.ensures c.in_ok-points.ensures) c.in_ok-edges.ensures) c.in_ok-triangles.ensures)).first
-
-pub extended-requires-3-clause-last : goal.extended-requires-3-clause-last
-extended-requires-3-clause-last c =
-    (walks c.self.inside.space.now c.self.inside.lists c.in_ok-triangles.triangles 2 c.self.invariant.0
-    (next-are c.self.inside.space.now c.self.inside.lists c.in_ok-edges.edges c.in_ok-triangles.triangles 1 c.self.invariant.0
-    (next-are c.self.inside.space.now c.self.inside.lists c.in_ok-points.points c.in_ok-edges.edges 0 c.self.invariant.0
-    (points-are c.self.inside.space.now c.self.inside.lists c.in_ok-points.points c.len.result c.self.invariant.0 c.len.ensures c.in_ok-points.ensures) c.in_ok-edges.ensures) c.in_ok-triangles.ensures)).last
+pub list_tetrahedra-requires : goal.list_tetrahedra-requires
+list_tetrahedra-requires c =
+    let points = points-are c.self.inside.space.now c.self.inside.lists c.in_ok-points.points.items c.len.result c.self.invariant.0 c.len.ensures c.in_ok-points.ensures in
+    let edges = next-are c.self.inside.space.now c.self.inside.lists c.deref.result.now c.in_ok-edges.edges.items 0 c.self.invariant.0 (c.deref.ensures.value ∙ points) c.in_ok-edges.ensures in
+    let triangles = next-are c.self.inside.space.now c.self.inside.lists c.deref-2.result.now c.in_ok-triangles.triangles.items 1 c.self.invariant.0 (c.deref-2.ensures.value ∙ edges) c.in_ok-triangles.ensures in
+    let w = walks c.self.inside.space.now c.self.inside.lists c.deref-3.result.now 2 c.self.invariant.0 (c.deref-3.ensures.value ∙ triangles) in
+    record { some = w.some; first = w.first; last = w.last }
 
 -- the four lists together
 four : (a b d e : List (List ℕ)) (space other : List (List (List ℕ))) → a ≡ chains_of space 0 → b ≡ chains_of space 1 → d ≡ chains_of space 2 → e ≡ chains_of space 3 → space ≡ other
@@ -70,15 +37,9 @@ four a b d e space other ha hb hd he s = rw (ha, hb, hd, he, s) refl
 
 pub returns : goal.returns
 returns c =
-    c.new.ensures ∙ four c.in_ok-points.points c.in_ok-edges.edges c.in_ok-triangles.triangles c.in_ok-tetrahedra.tetrahedra c.self.inside.space.now c.args.self.now
-    (points-are c.self.inside.space.now c.self.inside.lists c.in_ok-points.points c.len.result c.self.invariant.0 c.len.ensures c.in_ok-points.ensures)
-    (next-are c.self.inside.space.now c.self.inside.lists c.in_ok-points.points c.in_ok-edges.edges 0 c.self.invariant.0
-    (points-are c.self.inside.space.now c.self.inside.lists c.in_ok-points.points c.len.result c.self.invariant.0 c.len.ensures c.in_ok-points.ensures) c.in_ok-edges.ensures)
-    (next-are c.self.inside.space.now c.self.inside.lists c.in_ok-edges.edges c.in_ok-triangles.triangles 1 c.self.invariant.0
-    (next-are c.self.inside.space.now c.self.inside.lists c.in_ok-points.points c.in_ok-edges.edges 0 c.self.invariant.0
-    (points-are c.self.inside.space.now c.self.inside.lists c.in_ok-points.points c.len.result c.self.invariant.0 c.len.ensures c.in_ok-points.ensures) c.in_ok-edges.ensures) c.in_ok-triangles.ensures)
-    (next-are c.self.inside.space.now c.self.inside.lists c.in_ok-triangles.triangles c.in_ok-tetrahedra.tetrahedra 2 c.self.invariant.0
-    (next-are c.self.inside.space.now c.self.inside.lists c.in_ok-edges.edges c.in_ok-triangles.triangles 1 c.self.invariant.0
-    (next-are c.self.inside.space.now c.self.inside.lists c.in_ok-points.points c.in_ok-edges.edges 0 c.self.invariant.0
-    (points-are c.self.inside.space.now c.self.inside.lists c.in_ok-points.points c.len.result c.self.invariant.0 c.len.ensures c.in_ok-points.ensures) c.in_ok-edges.ensures) c.in_ok-triangles.ensures) c.in_ok-tetrahedra.ensures)
-    c.self.view_is
+    let points = points-are c.self.inside.space.now c.self.inside.lists c.in_ok-points.points.items c.len.result c.self.invariant.0 c.len.ensures c.in_ok-points.ensures in
+    let edges = next-are c.self.inside.space.now c.self.inside.lists c.deref.result.now c.in_ok-edges.edges.items 0 c.self.invariant.0 (c.deref.ensures.value ∙ points) c.in_ok-edges.ensures in
+    let triangles = next-are c.self.inside.space.now c.self.inside.lists c.deref-2.result.now c.in_ok-triangles.triangles.items 1 c.self.invariant.0 (c.deref-2.ensures.value ∙ edges) c.in_ok-triangles.ensures in
+    let tetrahedra = next-are c.self.inside.space.now c.self.inside.lists c.deref-3.result.now c.in_ok-tetrahedra.tetrahedra.items 2 c.self.invariant.0 (c.deref-3.ensures.value ∙ triangles) c.in_ok-tetrahedra.ensures in
+    c.new.ensures ∙ four c.in_ok-points.points.items c.in_ok-edges.edges.items c.in_ok-triangles.triangles.items c.in_ok-tetrahedra.tetrahedra.items c.self.inside.space.now c.args.self.now
+    points edges triangles tetrahedra c.self.view_is

@@ -1,7 +1,0 @@
-use Rattle.std.proofs.Common.{◌≡◌, take}
-use Rattle.std.specs.List.{flat_map}
-use Rattle.order_complex.specs.Listing.{extensions}
-use Rattle.order_complex.proofs.listing.extended.Given as goal
-
-abbrev pub invariant-loop-index : goal.invariant-loop-index
-invariant-loop-index l = l.lists ≡ flat_map (extensions l.uppers) (take l.index l.chains)
