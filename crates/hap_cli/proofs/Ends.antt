@@ -1,9 +1,10 @@
 -- How a run ends, from the stage where a command stops and from what it writes.
 use Rattle.std.proofs.Common.{◌≡◌, ℕ, ◌≤◌, ◌<◌, true, false, List, length, take, None, Some, Result, Ok, Err, refl, sym, ap, ◌∙◌, subst, inl, inr, arith}
-use Rattle.std.specs.Prelude.{IsSomeAnd, IfSome, IsNone, MatchOption, ◌⊎◌}
+use Rattle.std.specs.Prelude.{IsSomeAnd, IfSome, IsNone, ◌⊎◌}
 use Rattle.std.specs.declared.option.Option.{Option}
 use Rattle.std.specs.Io.KnownBytes.{Appends, Keeps}
 use Rattle.std.proofs.lemmas.List.{take_all}
+use Rattle.face_poset.specs.Poset.{Layers}
 use Rattle.face_poset.specs.declared.fault.SpaceFault.{SpaceFault}
 use Rattle.face_poset.specs.declared.fault.SpaceFault.TheVariants as in_space
 use Rattle.array_values.specs.declared.fault.ArrayFault.{ArrayFault}
@@ -19,7 +20,7 @@ use Rattle.hap_cli.specs.declared.refusal.Refusal.TheVariants.{TooLong, Text, Sp
 use Rattle.hap_cli.specs.Input.{input_name, told_store, OnNamed, OnInput}
 use Rattle.hap_cli.specs.Spaces.{made, fault_in}
 use Rattle.hap_cli.specs.Refusals.{refusal, refusal_status, space_status, array_status}
-use Rattle.hap_cli.specs.Outcomes.{status_of, status_for, Answers, Fails, Tells, IsEnd, IsStopped, written_outcome}
+use Rattle.hap_cli.specs.Outcomes.{status_of, status_for, Answers, Fails, Tells, IsEnd, EndsBy, IsStopped, written_outcome}
 
 -- what follows of the input under a name
 pub on_named : (name : Option (List ℕ)) (store : Option Store) (P Q : List ℕ → Type 0) → ((bytes : List ℕ) → P bytes → Q bytes) → OnNamed name store P → OnNamed name store Q
@@ -31,7 +32,7 @@ on_named name (Some store) P Q f h = of_some (store name) h
     of_some (Some bytes) h = f bytes h
 
 -- where a command stops at a stage, its run ends so
-pub stopped_end : (asked : Asked) (store : Option Store) (read write : Type 0) (written : Option (List ℕ)) (stage : List ℕ → Result (List (List (List ℕ))) Refusal) (outcome : Outcome)
+pub stopped_end : (asked : Asked) (store : Option Store) (read write : Type 0) (written : Option (List ℕ)) (stage : List ℕ → Result Layers Refusal) (outcome : Outcome)
     → ((bytes : List ℕ) (cause : Refusal) → stage bytes ≡ Err cause → refusal asked bytes ≡ Some cause) → IsStopped (input_name asked) (told_store asked store) read stage outcome → Keeps written written
     → IsEnd asked store read write written written outcome
 stopped_end asked store read write written stage (Refused cause) f h k = (on_named (input_name asked) (told_store asked store) (λ told. stage told ≡ Err cause) _ (λ bytes e. f bytes cause e) h, k)
@@ -62,7 +63,7 @@ made_end size modulus write written ReadFault h k = absurd h
 made_end size modulus write written WriteFault h k = absurd h
 
 -- a prefix of an answer was written
-pub wrote_front : (asked : Asked) (store : Option Store) (old new : Option (List ℕ)) (stage : List ℕ → Result (List (List (List ℕ))) Refusal) (space : List (List (List ℕ))) (text : List ℕ)
+pub wrote_front : (asked : Asked) (store : Option Store) (old new : Option (List ℕ)) (stage : List ℕ → Result Layers Refusal) (space : Layers) (text : List ℕ)
     → OnNamed (input_name asked) (told_store asked store) (λ told. stage told ≡ Ok space) → ((bytes : List ℕ) → stage bytes ≡ Ok space → Answers asked bytes text)
     → ((k : ℕ) × (k < length text) × Appends old new (take k text))
     → OnInput asked store (λ bytes. (text : List ℕ) × Answers asked bytes text × (k : ℕ) × (k < length text) × Appends old new (take k text))
@@ -70,15 +71,15 @@ wrote_front asked store old new stage space text h f w =
     on_named (input_name asked) (told_store asked store) (λ told. stage told ≡ Ok space) _ (λ bytes e. (text, f bytes e, w.0, w.1, w.2)) h
 
 -- an answer was written whole
-pub wrote_all : (asked : Asked) (store : Option Store) (old new : Option (List ℕ)) (stage : List ℕ → Result (List (List (List ℕ))) Refusal) (space : List (List (List ℕ))) (text : List ℕ)
+pub wrote_all : (asked : Asked) (store : Option Store) (old new : Option (List ℕ)) (stage : List ℕ → Result Layers Refusal) (space : Layers) (text : List ℕ)
     → OnNamed (input_name asked) (told_store asked store) (λ told. stage told ≡ Ok space) → ((bytes : List ℕ) → stage bytes ≡ Ok space → Answers asked bytes text) → Appends old new text
     → OnInput asked store (λ bytes. (text : List ℕ) × Answers asked bytes text × Appends old new text)
 wrote_all asked store old new stage space text h f w =
     on_named (input_name asked) (told_store asked store) (λ told. stage told ≡ Ok space) _ (λ bytes e. (text, f bytes e, w)) h
 
 -- a call that writes an answer ends the run
-pub wrote_end : {T E : Type 0} (asked : Asked) (store : Option Store) (read : Type 0) (old new : Option (List ℕ)) (before now : ℕ) (stage : List ℕ → Result (List (List (List ℕ))) Refusal)
-    (space : List (List (List ℕ))) (text : List ℕ) (r : Result T E) → OnNamed (input_name asked) (told_store asked store) (λ told. stage told ≡ Ok space) → ((bytes : List ℕ) → stage bytes ≡ Ok space → Answers asked bytes text)
+pub wrote_end : {T E : Type 0} (asked : Asked) (store : Option Store) (read : Type 0) (old new : Option (List ℕ)) (before now : ℕ) (stage : List ℕ → Result Layers Refusal)
+    (space : Layers) (text : List ℕ) (r : Result T E) → OnNamed (input_name asked) (told_store asked store) (λ told. stage told ≡ Ok space) → ((bytes : List ℕ) → stage bytes ≡ Ok space → Answers asked bytes text)
     → Writes old new text r → HasCause before now r → IsEnd asked store read (Rose before now) old new (written_outcome r)
 wrote_end asked store read old new before now stage space text (Ok x) h f w c = wrote_all asked store old new stage space text h f w.whole
 wrote_end asked store read old new before now stage space text (Err e) h f w c = (c.failed, wrote_front asked store old new stage space text h f w.part)
@@ -91,13 +92,14 @@ tells old new line before now (Ok x) w h = record {
 }
 tells old new line before now (Err e) w h = record { whole = inl h.failed; part = (w.part.0, omega (arith, w.part.1), w.part.2) }
 
--- what is known of the command that was asked for
-pub asked_end : (o : Option Asked) (asked : Asked) (P : Asked → Type 0) (N : Type 0) → o ≡ Some asked → P asked → MatchOption o N P
-asked_end o asked P N e h = subst (λ o. MatchOption o N P) (sym e) h
+-- the words end as the command ends that they ask for
+pub asked_end : (o : Option Asked) (asked : Asked) (store : Option Store) (read write : Type 0) (old new : Option (List ℕ)) (outcome : Outcome)
+    → o ≡ Some asked → IsEnd asked store read write old new outcome → EndsBy o store read write old new outcome
+asked_end o asked store read write old new outcome e h = subst (λ o. EndsBy o store read write old new outcome) (sym e) h
 
 -- where nothing failed outside, the status is that of the refusal, or memory was wanting
 pub exact_end : (o : Option Asked) (store : Option Store) (read write : Type 0) (old new : Option (List ℕ)) (outcome : Outcome) (status : ℕ) → status ≡ status_of outcome
-    → MatchOption o ((outcome ≡ Usage) ⊎ (outcome ≡ Memory)) (λ asked. IsEnd asked store read write old new outcome)
+    → EndsBy o store read write old new outcome
     → IfSome o (λ asked. IfSome (bytes_under (told_store asked store) (input_name asked)) (λ bytes. (read → ⊥) → (write → ⊥) → (status ≡ status_for (refusal asked bytes)) ⊎ (status ≡ 9)))
 exact_end None store read write old new outcome status e h = tt
 exact_end (Some asked) store read write old new outcome status e h = at outcome e h
@@ -173,20 +175,20 @@ refused_is cause n big e = absurd_of (refused_status cause)
 
 -- want of memory may be told at any words
 pub memory_end : (o : Option Asked) (store : Option Store) (read write : Type 0) (old : Option (List ℕ)) → Keeps old old
-    → MatchOption o ((Memory ≡ Usage) ⊎ (Memory ≡ Memory)) (λ asked. IsEnd asked store read write old old Memory)
+    → EndsBy o store read write old old Memory
 memory_end None store read write old h = inr refl
 memory_end (Some asked) store read write old h = h
 
 -- where the words are refused
-pub usage_end : (o : Option Asked) (outcome : Outcome) (P : Asked → Type 0) (status : ℕ) → status ≡ status_of outcome → MatchOption o ((outcome ≡ Usage) ⊎ (outcome ≡ Memory)) P
-    → IsNone o → (status ≡ 2) ⊎ (status ≡ 9)
-usage_end None outcome P status e (inl h) n = inl (e ∙ ap status_of h)
-usage_end None outcome P status e (inr h) n = inr (e ∙ ap status_of h)
-usage_end (Some asked) outcome P status e h n = absurd (let bad : true ≡ false = n in cc)
+pub usage_end : (o : Option Asked) (store : Option Store) (read write : Type 0) (old new : Option (List ℕ)) (outcome : Outcome) (status : ℕ) → status ≡ status_of outcome
+    → EndsBy o store read write old new outcome → IsNone o → (status ≡ 2) ⊎ (status ≡ 9)
+usage_end None store read write old new outcome status e (inl h) n = inl (e ∙ ap status_of h)
+usage_end None store read write old new outcome status e (inr h) n = inr (e ∙ ap status_of h)
+usage_end (Some asked) store read write old new outcome status e h n = absurd (let bad : true ≡ false = n in cc)
 
 -- a fault outside is told only where a count rose
 pub read_end : (o : Option Asked) (store : Option Store) (read write : Type 0) (old new : Option (List ℕ)) (outcome : Outcome) (status : ℕ) → status ≡ status_of outcome
-    → MatchOption o ((outcome ≡ Usage) ⊎ (outcome ≡ Memory)) (λ asked. IsEnd asked store read write old new outcome) → status ≡ 7 → read
+    → EndsBy o store read write old new outcome → status ≡ 7 → read
 read_end None store read write old new outcome status e (inl h) s = absurd (omega (arith, e ∙ ap status_of h, s))
 read_end None store read write old new outcome status e (inr h) s = absurd (omega (arith, e ∙ ap status_of h, s))
 read_end (Some asked) store read write old new outcome status e h s = at outcome (sym s ∙ e) h
@@ -200,7 +202,7 @@ read_end (Some asked) store read write old new outcome status e h s = at outcome
     at Memory e h = absurd (omega (arith, e))
 
 pub write_end : (o : Option Asked) (store : Option Store) (read write : Type 0) (old new : Option (List ℕ)) (outcome : Outcome) (status : ℕ) → status ≡ status_of outcome
-    → MatchOption o ((outcome ≡ Usage) ⊎ (outcome ≡ Memory)) (λ asked. IsEnd asked store read write old new outcome) → status ≡ 8 → write
+    → EndsBy o store read write old new outcome → status ≡ 8 → write
 write_end None store read write old new outcome status e (inl h) s = absurd (omega (arith, e ∙ ap status_of h, s))
 write_end None store read write old new outcome status e (inr h) s = absurd (omega (arith, e ∙ ap status_of h, s))
 write_end (Some asked) store read write old new outcome status e h s = at outcome (sym s ∙ e) h

@@ -3,6 +3,7 @@ use Rattle.std.proofs.Common.{◌≡◌, ℕ, ◌≤◌, ◌<◌, ◌+◌, Bool,
 use Rattle.std.specs.Prelude.{nat_lt, if◌then◌else◌, IfSome, IsSomeAnd}
 use Rattle.std.specs.declared.option.Option.{Option}
 use Rattle.std.proofs.lemmas.Bool.{ltb-true, ltb-false}
+use Rattle.face_poset.specs.Poset.{Layers}
 use Rattle.gap_text.specs.declared.fault.TextFault.{TextFault}
 use Rattle.gap_text.specs.declared.fault.TextFault.TheVariants as in_text
 use Rattle.gap_text.specs.Value.{Value}
@@ -28,7 +29,7 @@ use Rattle.hap_cli.specs.declared.outcome.Outcome.TheVariants.{Done, Usage, Refu
 use Rattle.hap_cli.specs.declared.refusal.Refusal.{Refusal}
 use Rattle.hap_cli.specs.declared.refusal.Refusal.TheVariants.{TooLong, Chains}
 use Rattle.hap_cli.specs.Input.{OnNamed}
-use Rattle.hap_cli.specs.Spaces.{space_in, space_of_kind, of_text, of_value, of_array, reading, unless_broken, only_regular, only_few}
+use Rattle.hap_cli.specs.Spaces.{space_in, space_of_kind, of_text, of_value, of_array, reading, unless_broken, only_regular, only_few, byte_limit}
 use Rattle.hap_cli.specs.Outcomes.{text_outcome, space_outcome, array_outcome, regular_outcome, chain_outcome, Fails, IsStopped}
 use Rattle.hap_cli.specs.Counting.{RisesBy, most_steps}
 use Rattle.hap_cli.proofs.Ends.{on_named}
@@ -70,7 +71,7 @@ space_ends value (in_space.RepeatedFace c) h = ap of_value (h (λ f. cc))
 space_ends value in_space.TooManyCells h = ap of_value (h (λ f. cc))
 
 -- and one of an array
-pub array_ends : (r : Result (List (List (List ℕ))) ArrayFault) (fault : ArrayFault) → (fault ≢ in_array.Memory → r ≡ Err fault) → Fails (of_array r) (array_outcome fault)
+pub array_ends : (r : Result Layers ArrayFault) (fault : ArrayFault) → (fault ≢ in_array.Memory → r ≡ Err fault) → Fails (of_array r) (array_outcome fault)
 array_ends r in_array.Memory h = tt
 array_ends r (in_array.Ragged p) h = ap of_array (h (λ f. cc))
 array_ends r (in_array.NotBit p) h = ap of_array (h (λ f. cc))
@@ -85,7 +86,7 @@ pub value_ends : (kind : Kind) (bytes : List ℕ) (value : Value) (outcome : Out
 value_ends kind bytes value outcome e h = subst (λ r. Fails (of_text kind r) outcome) (sym e) h
 
 -- and the first rule that is broken
-pub rule_ends : (space : List (List (List ℕ))) (fault : RegularFault) → IsFault (first_fault space) fault → Fails (only_regular (Ok space)) (regular_outcome fault)
+pub rule_ends : (space : Layers) (fault : RegularFault) → IsFault (first_fault space) fault → Fails (only_regular (Ok space)) (regular_outcome fault)
 rule_ends space in_rules.Memory h = tt
 rule_ends space (in_rules.EdgeEnds c) h = ap (unless_broken space) h
 rule_ends space (in_rules.NotCycle c) h = ap (unless_broken space) h
@@ -94,20 +95,20 @@ rule_ends space (in_rules.Apart c) h = ap (unless_broken space) h
 rule_ends space (in_rules.NotSphere c v) h = ap (unless_broken space) h
 
 -- a space with few enough chains comes past that stage
-pub few_passes : (limit : ℕ) (space : List (List (List ℕ))) → chain_count space ≤ limit → only_few limit (Ok space) ≡ Ok space
+pub few_passes : (limit : ℕ) (space : Layers) → chain_count space ≤ limit → only_few limit (Ok space) ≡ Ok space
 few_passes limit space few = ap (λ b. if b then Err (Chains (chain_count space)) else Ok space) (not_less limit (chain_count space) few)
 
 -- and one with more does not
-pub many_fail : (limit : ℕ) (space : List (List (List ℕ))) → limit < chain_count space → only_few limit (Ok space) ≡ Err (Chains (chain_count space))
+pub many_fail : (limit : ℕ) (space : Layers) → limit < chain_count space → only_few limit (Ok space) ≡ Err (Chains (chain_count space))
 many_fail limit space many = ap (λ b. if b then Err (Chains (chain_count space)) else Ok space) (less limit (chain_count space) many)
 
 -- the refusal is that of the number of chains
-pub chain_ends : (limit : ℕ) (space : List (List (List ℕ))) (fault : ChainFault) → IsRefused (chain_count space) limit fault → Fails (only_few limit (Ok space)) (chain_outcome fault)
+pub chain_ends : (limit : ℕ) (space : Layers) (fault : ChainFault) → IsRefused (chain_count space) limit fault → Fails (only_few limit (Ok space)) (chain_outcome fault)
 chain_ends limit space in_chains.Memory h = tt
 chain_ends limit space (in_chains.TooManyChains n) h = subst (λ m. only_few limit (Ok space) ≡ Err (Chains m)) (sym h.0) (many_fail limit space h.1)
 
 -- the steps of a space with few enough chains, and none of another
-pub few_steps : (limit : ℕ) (space : List (List (List ℕ))) (old new : ℕ) → new ≤ old + coboundary_entries space → (limit < chain_count space → new ≡ old)
+pub few_steps : (limit : ℕ) (space : Layers) (old new : ℕ) → new ≤ old + coboundary_entries space → (limit < chain_count space → new ≡ old)
     → new ≤ old + most_steps (only_few limit (Ok space))
 few_steps limit space old new most none = at (nat_lt limit (chain_count space)) refl
   where
@@ -117,20 +118,20 @@ few_steps limit space old new most none = at (nat_lt limit (chain_count space)) 
     at false e = subst (λ r. new ≤ old + most_steps r) (sym (few_passes limit space (ltb-false limit (chain_count space) e))) most
 
 -- an input within the limit is read by its text and its space alone
-pub within : (kind : Kind) (bytes : List ℕ) → length bytes ≤ 16777216 → reading kind bytes ≡ space_in kind bytes
-within kind bytes short = ap (λ b. if b then Err (TooLong 16777216) else space_in kind bytes) (not_less 16777216 (length bytes) short)
+pub within : (kind : Kind) (bytes : List ℕ) → length bytes ≤ byte_limit → reading kind bytes ≡ space_in kind bytes
+within kind bytes short = ap (λ b. if b then Err (TooLong byte_limit) else space_in kind bytes) (not_less byte_limit (length bytes) short)
 
 -- one that is too long is refused for that
-pub too_long : (kind : Kind) (bytes : List ℕ) → 16777216 < length bytes → reading kind bytes ≡ Err (TooLong 16777216)
-too_long kind bytes long = ap (λ b. if b then Err (TooLong 16777216) else space_in kind bytes) (less 16777216 (length bytes) long)
+pub too_long : (kind : Kind) (bytes : List ℕ) → byte_limit < length bytes → reading kind bytes ≡ Err (TooLong byte_limit)
+too_long kind bytes long = ap (λ b. if b then Err (TooLong byte_limit) else space_in kind bytes) (less byte_limit (length bytes) long)
 
 -- what the bytes that were read stand for
-pub read_in : (kind : Kind) (name : Option (List ℕ)) (store : Option Store) (items : List ℕ) (r : Result (List (List (List ℕ))) Refusal) → OnNamed name store (λ told. items ≡ told) → length items ≤ 16777216
+pub read_in : (kind : Kind) (name : Option (List ℕ)) (store : Option Store) (items : List ℕ) (r : Result Layers Refusal) → OnNamed name store (λ told. items ≡ told) → length items ≤ byte_limit
     → space_in kind items ≡ r → OnNamed name store (λ told. reading kind told ≡ r)
 read_in kind name store items r h short e = on_named name store (λ told. items ≡ told) _ (λ bytes f. subst (λ b. reading kind b ≡ r) f (within kind items short ∙ e)) h
 
 -- where they stand for no space, a run stops so
-pub fails_in : (kind : Kind) (name : Option (List ℕ)) (store : Option Store) (rose : Type 0) (items : List ℕ) (outcome : Outcome) → OnNamed name store (λ told. items ≡ told) → length items ≤ 16777216
+pub fails_in : (kind : Kind) (name : Option (List ℕ)) (store : Option Store) (rose : Type 0) (items : List ℕ) (outcome : Outcome) → OnNamed name store (λ told. items ≡ told) → length items ≤ byte_limit
     → Fails (space_in kind items) outcome → IsStopped name store rose (reading kind) outcome
 fails_in kind name store rose items (Refused cause) h short e = read_in kind name store items (Err cause) h short e
 fails_in kind name store rose items Memory h short e = tt
@@ -140,12 +141,12 @@ fails_in kind name store rose items ReadFault h short e = absurd e
 fails_in kind name store rose items WriteFault h short e = e
 
 -- where they are too many
-pub long_in : (kind : Kind) (name : Option (List ℕ)) (store : Option Store) → OnNamed name store (λ told. 16777216 < length told) → OnNamed name store (λ told. reading kind told ≡ Err (TooLong 16777216))
-long_in kind name store h = on_named name store (λ told. 16777216 < length told) _ (too_long kind) h
+pub long_in : (kind : Kind) (name : Option (List ℕ)) (store : Option Store) → OnNamed name store (λ told. byte_limit < length told) → OnNamed name store (λ told. reading kind told ≡ Err (TooLong byte_limit))
+long_in kind name store h = on_named name store (λ told. byte_limit < length told) _ (too_long kind) h
 
 -- where a space that was read does not come past the next stage, a run stops so
-pub fails_next : (name : Option (List ℕ)) (store : Option Store) (rose : Type 0) (stage : List ℕ → Result (List (List (List ℕ))) Refusal)
-    (next : Result (List (List (List ℕ))) Refusal → Result (List (List (List ℕ))) Refusal) (space : List (List (List ℕ))) (outcome : Outcome)
+pub fails_next : (name : Option (List ℕ)) (store : Option Store) (rose : Type 0) (stage : List ℕ → Result Layers Refusal)
+    (next : Result Layers Refusal → Result Layers Refusal) (space : Layers) (outcome : Outcome)
     → OnNamed name store (λ told. stage told ≡ Ok space) → Fails (next (Ok space)) outcome → IsStopped name store rose (λ bytes. next (stage bytes)) outcome
 fails_next name store rose stage next space (Refused cause) h e = on_named name store (λ told. stage told ≡ Ok space) _ (λ bytes f. ap next f ∙ e) h
 fails_next name store rose stage next space Memory h e = tt
@@ -155,8 +156,8 @@ fails_next name store rose stage next space ReadFault h e = absurd e
 fails_next name store rose stage next space WriteFault h e = e
 
 -- and where it does
-pub passes_next : (name : Option (List ℕ)) (store : Option Store) (stage : List ℕ → Result (List (List (List ℕ))) Refusal)
-    (next : Result (List (List (List ℕ))) Refusal → Result (List (List (List ℕ))) Refusal) (space : List (List (List ℕ)))
+pub passes_next : (name : Option (List ℕ)) (store : Option Store) (stage : List ℕ → Result Layers Refusal)
+    (next : Result Layers Refusal → Result Layers Refusal) (space : Layers)
     → OnNamed name store (λ told. stage told ≡ Ok space) → next (Ok space) ≡ Ok space → OnNamed name store (λ told. next (stage told) ≡ Ok space)
 passes_next name store stage next space h e = on_named name store (λ told. stage told ≡ Ok space) _ (λ bytes f. ap next f ∙ e) h
 
@@ -170,8 +171,8 @@ none_risen name (Some store) most n = at (store name)
     at (Some bytes) = omega arith
 
 -- and one that read a space
-pub risen : (name : Option (List ℕ)) (store : Option Store) (stage : List ℕ → Result (List (List (List ℕ))) Refusal) (r : Result (List (List (List ℕ))) Refusal)
-    (most : Result (List (List (List ℕ))) Refusal → ℕ) (old new : ℕ) → OnNamed name store (λ told. stage told ≡ r) → new ≤ old + most r
+pub risen : (name : Option (List ℕ)) (store : Option Store) (stage : List ℕ → Result Layers Refusal) (r : Result Layers Refusal)
+    (most : Result Layers Refusal → ℕ) (old new : ℕ) → OnNamed name store (λ told. stage told ≡ r) → new ≤ old + most r
     → RisesBy name store (λ bytes. most (stage bytes)) old new
 risen name None stage r most old new h w = tt
 risen name (Some store) stage r most old new h w = at (store name) h

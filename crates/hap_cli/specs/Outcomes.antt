@@ -1,10 +1,25 @@
--- How a run ends: its status, its line, and the cause of each.
-use Rattle.std.specs.Prelude.{◌≡◌, ◌⊎◌, ◌≤◌, ◌<◌, ℕ, List, [], codes, length, take, None, ⊤}
+-- How a run ends: its status, its line, and the cause of each. store is what the source tells; read and write say that the
+-- count of faults of the source, and that of the output, rose; old and new are what a sink holds before and after.
+--   usage_line                the line where the words are refused
+--   status_of outcome         the status
+--   line_of outcome           the line for err, and nothing where the run is done
+--   status_for refusal        the status where nothing fails outside: 0 where nothing is refused
+--   written_outcome answer    how a run ends after its answer was written, or was not
+--   text_outcome, space_outcome, array_outcome, regular_outcome, chain_outcome   how it ends at a fault of these
+--   Fails stage outcome       the stage refuses for this cause, or memory was wanting
+--   IsStopped name store rose stage outcome   the same of what was read, or the source failed: rose
+--   Tells old new line failed    the line was appended, or err failed; in any case a prefix of it was appended
+--   Answers asked bytes text     the text is an answer on an input that is not refused
+--   IsEnd asked store read write old new outcome    why the command ends so, and what was then appended to the output
+--   EndsBy words store read write old new outcome   the same of what the words ask for: where they are refused, that is the
+--                                                   cause, or memory was wanting to read them. Nothing in it speaks of err
+use Rattle.std.specs.Prelude.{◌≡◌, ◌⊎◌, ◌≤◌, ◌<◌, ℕ, List, [], codes, length, take, None, ⊤, MatchOption}
 use Rattle.std.specs.declared.option.Option.{Option}
 use Rattle.std.specs.declared.option.Option.TheVariants.{Some}
 use Rattle.std.specs.declared.result.Result.{Result}
 use Rattle.std.specs.declared.result.Result.TheVariants.{Ok, Err}
 use Rattle.std.specs.Io.KnownBytes.{Appends, Keeps}
+use Rattle.face_poset.specs.Poset.{Layers}
 use Rattle.hap_outside.specs.Stores.{Store}
 use Rattle.hap_words.specs.Asked.{Asked}
 use Rattle.hap_cli.specs.declared.outcome.Outcome.{Outcome}
@@ -25,7 +40,6 @@ use Rattle.hap_cli.specs.Input.{OnNamed, OnInput}
 use Rattle.hap_cli.specs.Refusals.{refusal, refusal_status, refusal_line}
 use Rattle.hap_cli.specs.Answers.{IsAnswer}
 
--- the words that are taken
 abbrev pub usage_line : List ℕ
 usage_line = codes "hap: usage: hap COMMAND [--kind K] [--in NAME] [--mod P] [--sheets N] [--budget B] [--from T] [--index I] [--size N]\n"
 
@@ -37,7 +51,6 @@ status_of ReadFault = 7
 status_of WriteFault = 8
 status_of Memory = 9
 
--- the line for err, and nothing where the run is done
 abbrev pub line_of : Outcome → List ℕ
 line_of Done = []
 line_of Usage = usage_line
@@ -46,19 +59,16 @@ line_of ReadFault = codes "hap: read fault\n"
 line_of WriteFault = codes "hap: write fault\n"
 line_of Memory = codes "hap: want of memory\n"
 
--- how a run ends after its answer was written
 abbrev pub written_outcome : {T E : Type 0} → Result T E → Outcome
 written_outcome (Ok written) = Done
 written_outcome (Err failed) = WriteFault
 
--- the status where nothing fails outside
 abbrev pub status_for : Option Refusal → ℕ
 status_for None = 0
 status_for (Some cause) = refusal_status cause
 
 -- ---- faults of what a stage reads
 
--- how a run ends at a fault of the text, of the space, of an array, and at a broken rule: it is refused, or memory was wanting
 abbrev pub text_outcome : TextFault → Outcome
 text_outcome in_text.Memory = Memory
 text_outcome fault = Refused (Text fault)
@@ -75,19 +85,16 @@ abbrev pub regular_outcome : RegularFault → Outcome
 regular_outcome in_rules.Memory = Memory
 regular_outcome fault = Refused (Irregular fault)
 
--- and at too many chains
 abbrev pub chain_outcome : ChainFault → Outcome
 chain_outcome in_chains.Memory = Memory
 chain_outcome (in_chains.TooManyChains count) = Refused (Chains count)
 
--- what was read is refused for this cause, or memory was wanting
-abbrev pub Fails : Result (List (List (List ℕ))) Refusal → Outcome → Type 0
+abbrev pub Fails : Result Layers Refusal → Outcome → Type 0
 Fails read (Refused cause) = read ≡ Err cause
 Fails read Memory = ⊤
 Fails read other = ⊥
 
--- how a run ends that does not come past a stage: rose says that the count of the source rose
-abbrev pub IsStopped : Option (List ℕ) → Option Store → (rose : Type 0) → (stage : List ℕ → Result (List (List (List ℕ))) Refusal) → Outcome → Type 0
+abbrev pub IsStopped : Option (List ℕ) → Option Store → (rose : Type 0) → (stage : List ℕ → Result Layers Refusal) → Outcome → Type 0
 IsStopped name store rose stage (Refused cause) = OnNamed name store (λ told. stage told ≡ Err cause)
 IsStopped name store rose stage ReadFault = rose
 IsStopped name store rose stage Memory = ⊤
@@ -95,17 +102,13 @@ IsStopped name store rose stage other = ⊥
 
 -- ---- the ends
 
--- the line was appended, or err failed; a prefix of the line was appended in any case
 pub record Tells (old new : Option (List ℕ)) (line : List ℕ) (failed : Type 0) : Type 0 where
   pub whole : failed ⊎ Appends old new line
   pub part : (n : ℕ) × (n ≤ length line) × Appends old new (take n line)
 
--- the text is an answer on an input that is not refused
 abbrev pub Answers : Asked → List ℕ → List ℕ → Type 0
 Answers asked bytes text = (refusal asked bytes ≡ None) × IsAnswer asked bytes text
 
--- why a command that the words give ends so, and what was then appended to the output: read and write say
--- that the count of the source, and that of the output, rose
 abbrev pub IsEnd : Asked → Option Store → (read write : Type 0) → (old new : Option (List ℕ))
     → Outcome → Type 0
 IsEnd asked store read write old new Done =
@@ -118,3 +121,7 @@ IsEnd asked store read write old new WriteFault =
     write × OnInput asked store (λ bytes. (text : List ℕ) × Answers asked bytes text
     × (n : ℕ) × (n < length text) × Appends old new (take n text))
 IsEnd asked store read write old new Memory = Keeps old new
+
+abbrev pub EndsBy : Option Asked → Option Store → (read write : Type 0) → (old new : Option (List ℕ)) → Outcome → Type 0
+EndsBy words store read write old new outcome =
+    MatchOption words ((outcome ≡ Usage) ⊎ (outcome ≡ Memory)) (λ asked. IsEnd asked store read write old new outcome)

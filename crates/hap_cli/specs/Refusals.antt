@@ -1,4 +1,9 @@
--- Why a command refuses its input.
+-- Why a command refuses its input, with the status and the line of each cause.
+--   refusal asked bytes      the first condition that holds, in the order of the stages, or None
+--   refusal_status cause     3 for the text, 4 for the space or the array, 5 for a limit
+--   refusal_line cause       the line on standard error, which begins with `hap: ` and ends with a line feed
+--   text_line, space_line, array_fault_line, regular_line, limit_line, chains_line   the same of each kind of cause
+--   space_status, array_status, text_words, text_place, shape_line, cell_line, array_line, rule_line, sphere_line: steps
 use Rattle.std.specs.Prelude.{ℕ, ℤ, ◌++◌, List, codes, decimal}
 use Rattle.std.specs.Fmt.{signed_decimal}
 use Rattle.std.specs.declared.option.Option.{Option}
@@ -17,7 +22,6 @@ use Rattle.hap_cli.specs.declared.refusal.Refusal.{Refusal}
 use Rattle.hap_cli.specs.declared.refusal.Refusal.TheVariants.{TooLong, Text, Space, Array, Irregular, Chains}
 use Rattle.hap_cli.specs.Spaces.{fault_in, reading, regular_reading, few_reading, made}
 
--- the first condition that holds, in the order of the stages
 abbrev pub refusal : Asked → List ℕ → Option Refusal
 refusal (cells s) bytes = fault_in (reading s.kind bytes)
 refusal (check s) bytes = fault_in (regular_reading s.kind bytes)

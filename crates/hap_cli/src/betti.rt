@@ -5,7 +5,7 @@ ghost use Rattle.order_complex.specs.Numbers.{AreBetti};
 ghost use Rattle.hap_outside.specs.Causes.{HasCause};
 ghost use Rattle.hap_outside.specs.Writes.{Writes};
 ghost use Rattle.small_field.specs.Modulus.{is_modulus};
-ghost use Rattle.hap_cli.specs.Spaces.{only_few};
+ghost use Rattle.hap_cli.specs.Spaces.{only_few, chain_limit};
 ghost use Rattle.hap_cli.specs.Answers.{betti_text};
 ghost use Rattle.hap_cli.specs.Counting.{most_steps};
 ghost use Rattle.hap_cli.specs.Outcomes.{Fails};
@@ -31,9 +31,9 @@ pub fn few_betti<L: Ledger>(
 ) -> Result<Betti, Outcome>
     requires { is_modulus modulus ≡ true }
     ensures numbers { IfOk result (AreBetti (mod_ops modulus) space.now) }
-    ensures few { OnOk result (only_few 700000 (Ok space.now) ≡ Ok space.now) }
-    ensures outcome { IfErr result (Fails (only_few 700000 (Ok space.now))) }
-    ensures steps { steps.new ≤ steps.old + most_steps (only_few 700000 (Ok space.now)) }
+    ensures few { OnOk result (only_few chain_limit (Ok space.now) ≡ Ok space.now) }
+    ensures outcome { IfErr result (Fails (only_few chain_limit (Ok space.now))) }
+    ensures steps { steps.new ≤ steps.old + most_steps (only_few chain_limit (Ok space.now)) }
 {
     Ok(betti_of(alloc, space, modulus, MOST_CHAINS, steps)?)
 }

@@ -4,6 +4,7 @@ ghost use Rattle.std.specs.Io.KnownBytes.{IsAtEnd};
 ghost use Rattle.hap_outside.specs.Causes.{Rose};
 ghost use Rattle.hap_words.specs.Asked.{source_of};
 ghost use Rattle.hap_cli.specs.Input.{OnNamed};
+ghost use Rattle.hap_cli.specs.Spaces.{byte_limit};
 
 use hap_outside::{Failed, ReadAll, Source, read_all};
 use hap_words::Input;
@@ -19,11 +20,11 @@ pub fn read_input<S: Source>(
     source: &mut S,
 ) -> Result<Vec<u8>, ReadAll>
     requires { S.begun source.old ≡ false }
-    ensures bytes { IfOk result (λ bytes. (length bytes.items ≤ 16777216)
+    ensures bytes { IfOk result (λ bytes. (length bytes.items ≤ byte_limit)
         × OnNamed (source_of input.now).name (S.store source.old) (λ told. bytes.items ≡ told)) }
     ensures end { OnOk result (IsAtEnd (S.left source.new)) }
     ensures too_long { IsErrOf result ReadAll.TooLong
-        → OnNamed (source_of input.now).name (S.store source.old) (λ told. 16777216 < length told) }
+        → OnNamed (source_of input.now).name (S.store source.old) (λ told. byte_limit < length told) }
     ensures fault { IsErrOf result ReadAll.Fault → Rose (S.faults source.old) (S.faults source.new) }
     ensures told { S.faults source.old < S.faults source.new → IsErrOf result ReadAll.Fault }
 {

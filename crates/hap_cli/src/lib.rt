@@ -13,6 +13,6 @@ mod refusal;
 mod running;
 mod space;
 
-pub use outcome::{Outcome, end_with};
+pub use outcome::{Outcome, end_with, status};
 pub use refusal::Refusal;
 pub use running::run;

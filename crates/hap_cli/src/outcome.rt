@@ -99,17 +99,22 @@ impl From<ChainFault> for Outcome {
     }
 }
 
-/// How the run ends after its answer was written.
-pub fn written(answer: Result<(), Failed>) -> Outcome
-    ensures { result ≡ written_outcome answer }
+/// Writes the line of the outcome, where it has one, and answers its status, also where `err` fails.
+pub fn end_with<E: Sink>(err: &mut E, outcome: Outcome) -> u8
+    ensures status { result ≡ status_of outcome }
+    ensures line { Tells (E.written err.old) (E.written err.new) (line_of outcome)
+        (Rose (E.faults err.old) (E.faults err.new)) }
+    ensures silent { outcome ≡ Outcome.Done → err.new ≡ err.old }
 {
-    match answer {
-        Ok(()) => Outcome::Done,
-        Err(Failed) => Outcome::WriteFault,
+    match write_line(err, outcome) {
+        Ok(()) => (),
+        Err(Failed) => (),
     }
+    status(outcome)
 }
 
-fn status(outcome: Outcome) -> u8
+/// The status of a run that ends so.
+pub fn status(outcome: Outcome) -> u8
     ensures { result ≡ status_of outcome }
 {
     match outcome {
@@ -120,16 +125,6 @@ fn status(outcome: Outcome) -> u8
         Outcome::WriteFault => 8,
         Outcome::Memory => 9,
     }
-}
-
-fn write_usage<E: Sink>(err: &mut E) -> Result<(), Failed>
-    ensures bytes { Writes (E.written err.old) (E.written err.new) usage_line result }
-    ensures cause { HasCause (E.faults err.old) (E.faults err.new) result }
-{
-    write_all(
-        err,
-        b"hap: usage: hap COMMAND [--kind K] [--in NAME] [--mod P] [--sheets N] [--budget B] [--from T] [--index I] [--size N]\n",
-    )
 }
 
 fn write_line<E: Sink>(err: &mut E, outcome: Outcome) -> Result<(), Failed>
@@ -147,17 +142,22 @@ fn write_line<E: Sink>(err: &mut E, outcome: Outcome) -> Result<(), Failed>
     }
 }
 
-/// Writes the line of the outcome, where it has one, and answers its status. A fault of `err` changes
-/// nothing but the line.
-pub fn end_with<E: Sink>(err: &mut E, outcome: Outcome) -> u8
-    ensures status { result ≡ status_of outcome }
-    ensures line { Tells (E.written err.old) (E.written err.new) (line_of outcome)
-        (Rose (E.faults err.old) (E.faults err.new)) }
-    ensures silent { outcome ≡ Outcome.Done → err.new ≡ err.old }
+fn write_usage<E: Sink>(err: &mut E) -> Result<(), Failed>
+    ensures bytes { Writes (E.written err.old) (E.written err.new) usage_line result }
+    ensures cause { HasCause (E.faults err.old) (E.faults err.new) result }
 {
-    match write_line(err, outcome) {
-        Ok(()) => (),
-        Err(Failed) => (),
+    write_all(
+        err,
+        b"hap: usage: hap COMMAND [--kind K] [--in NAME] [--mod P] [--sheets N] [--budget B] [--from T] [--index I] [--size N]\n",
+    )
+}
+
+/// How the run ends after its answer was written.
+pub fn written(answer: Result<(), Failed>) -> Outcome
+    ensures { result ≡ written_outcome answer }
+{
+    match answer {
+        Ok(()) => Outcome::Done,
+        Err(Failed) => Outcome::WriteFault,
     }
-    status(outcome)
 }

@@ -27,36 +27,37 @@ pub enum Refusal {
     Chains(u64),
 }
 
-/// The status of the refusal.
-pub fn refusal_code(refusal: Refusal) -> u8
-    ensures { result ≡ refusals.refusal_status refusal }
+/// Writes the line of the refusal.
+pub fn write_refusal<E: Sink>(err: &mut E, refusal: Refusal) -> Result<(), Failed>
+    ensures bytes { Writes (E.written err.old) (E.written err.new) (refusals.refusal_line refusal) result }
+    ensures cause { HasCause (E.faults err.old) (E.faults err.new) result }
 {
     match refusal {
-        Refusal::TooLong(_) => 5,
-        Refusal::Text(_) => 3,
-        Refusal::Space(fault) => space_code(fault),
-        Refusal::Array(fault) => array_code(fault),
-        Refusal::Irregular(_) => 4,
-        Refusal::Chains(_) => 5,
+        Refusal::TooLong(limit) => write_limit(err, limit),
+        Refusal::Text(fault) => write_text(err, fault),
+        Refusal::Space(fault) => write_space(err, fault),
+        Refusal::Array(fault) => write_array(err, fault),
+        Refusal::Irregular(fault) => write_regular(err, fault),
+        Refusal::Chains(count) => write_chains(err, count),
     }
 }
 
-fn space_code(fault: SpaceFault) -> u8
-    ensures { result ≡ refusals.space_status fault }
+fn write_text<E: Sink>(err: &mut E, fault: TextFault) -> Result<(), Failed>
+    ensures bytes { Writes (E.written err.old) (E.written err.new) (refusals.text_line fault) result }
+    ensures cause { HasCause (E.faults err.old) (E.faults err.new) result }
 {
-    match fault {
-        SpaceFault::TooManyCells => 5,
-        _ => 4,
-    }
-}
-
-fn array_code(fault: ArrayFault) -> u8
-    ensures { result ≡ refusals.array_status fault }
-{
-    match fault {
-        ArrayFault::TooManyCells => 5,
-        _ => 4,
-    }
+    let words = text_words(fault);
+    let place = Piece::Count(u64::from(text_place(fault)));
+    write_pieces(
+        err,
+        &[
+            Piece::Text(b"hap: text: "),
+            Piece::Text(words),
+            Piece::Text(b" at byte "),
+            place,
+            Piece::Text(b"\n"),
+        ],
+    )
 }
 
 fn text_words(fault: TextFault) -> &'static [u8]
@@ -89,22 +90,20 @@ fn text_place(fault: TextFault) -> u32
     }
 }
 
-fn write_text<E: Sink>(err: &mut E, fault: TextFault) -> Result<(), Failed>
-    ensures bytes { Writes (E.written err.old) (E.written err.new) (refusals.text_line fault) result }
+fn write_space<E: Sink>(err: &mut E, fault: SpaceFault) -> Result<(), Failed>
+    ensures bytes { Writes (E.written err.old) (E.written err.new) (refusals.space_line fault) result }
     ensures cause { HasCause (E.faults err.old) (E.faults err.new) result }
 {
-    let words = text_words(fault);
-    let place = Piece::Count(u64::from(text_place(fault)));
-    write_pieces(
-        err,
-        &[
-            Piece::Text(b"hap: text: "),
-            Piece::Text(words),
-            Piece::Text(b" at byte "),
-            place,
-            Piece::Text(b"\n"),
-        ],
-    )
+    match fault {
+        SpaceFault::Shape(place) => write_shape(err, place),
+        SpaceFault::Empty => write_all(err, b"hap: space: empty\n"),
+        SpaceFault::TooHigh => write_all(err, b"hap: space: dimension over 3\n"),
+        SpaceFault::BadCount(cell) => write_cell(err, b"bad count", cell),
+        SpaceFault::FaceOutOfRange(cell) => write_cell(err, b"face out of range", cell),
+        SpaceFault::RepeatedFace(cell) => write_cell(err, b"repeated face", cell),
+        SpaceFault::TooManyCells => write_all(err, b"hap: limit: cells over 60000\n"),
+        SpaceFault::Memory => write_all(err, b"hap: want of memory\n"),
+    }
 }
 
 fn write_shape<E: Sink>(err: &mut E, place: u32) -> Result<(), Failed>
@@ -142,19 +141,19 @@ fn write_cell<E: Sink>(err: &mut E, words: &[u8], cell: Cell) -> Result<(), Fail
     )
 }
 
-fn write_space<E: Sink>(err: &mut E, fault: SpaceFault) -> Result<(), Failed>
-    ensures bytes { Writes (E.written err.old) (E.written err.new) (refusals.space_line fault) result }
+fn write_array<E: Sink>(err: &mut E, fault: ArrayFault) -> Result<(), Failed>
+    ensures bytes { Writes (E.written err.old) (E.written err.new) (refusals.array_fault_line fault) result }
     ensures cause { HasCause (E.faults err.old) (E.faults err.new) result }
 {
     match fault {
-        SpaceFault::Shape(place) => write_shape(err, place),
-        SpaceFault::Empty => write_all(err, b"hap: space: empty\n"),
-        SpaceFault::TooHigh => write_all(err, b"hap: space: dimension over 3\n"),
-        SpaceFault::BadCount(cell) => write_cell(err, b"bad count", cell),
-        SpaceFault::FaceOutOfRange(cell) => write_cell(err, b"face out of range", cell),
-        SpaceFault::RepeatedFace(cell) => write_cell(err, b"repeated face", cell),
-        SpaceFault::TooManyCells => write_all(err, b"hap: limit: cells over 60000\n"),
-        SpaceFault::Memory => write_all(err, b"hap: want of memory\n"),
+        ArrayFault::Ragged(place) => write_place(err, b"ragged at byte ", place),
+        ArrayFault::NotBit(place) => write_place(err, b"not a bit at byte ", place),
+        ArrayFault::BadDimension => write_all(err, b"hap: array: bad dimension\n"),
+        ArrayFault::Empty => write_all(err, b"hap: array: empty\n"),
+        ArrayFault::BadPair(row) => write_place(err, b"bad pair in row ", row),
+        ArrayFault::ColumnCount(column) => write_place(err, b"column ", column),
+        ArrayFault::TooManyCells => write_all(err, b"hap: limit: cells over 60000\n"),
+        ArrayFault::Memory => write_all(err, b"hap: want of memory\n"),
     }
 }
 
@@ -174,19 +173,17 @@ fn write_place<E: Sink>(err: &mut E, words: &[u8], place: u32) -> Result<(), Fai
     )
 }
 
-fn write_array<E: Sink>(err: &mut E, fault: ArrayFault) -> Result<(), Failed>
-    ensures bytes { Writes (E.written err.old) (E.written err.new) (refusals.array_fault_line fault) result }
+fn write_regular<E: Sink>(err: &mut E, fault: RegularFault) -> Result<(), Failed>
+    ensures bytes { Writes (E.written err.old) (E.written err.new) (refusals.regular_line fault) result }
     ensures cause { HasCause (E.faults err.old) (E.faults err.new) result }
 {
     match fault {
-        ArrayFault::Ragged(place) => write_place(err, b"ragged at byte ", place),
-        ArrayFault::NotBit(place) => write_place(err, b"not a bit at byte ", place),
-        ArrayFault::BadDimension => write_all(err, b"hap: array: bad dimension\n"),
-        ArrayFault::Empty => write_all(err, b"hap: array: empty\n"),
-        ArrayFault::BadPair(row) => write_place(err, b"bad pair in row ", row),
-        ArrayFault::ColumnCount(column) => write_place(err, b"column ", column),
-        ArrayFault::TooManyCells => write_all(err, b"hap: limit: cells over 60000\n"),
-        ArrayFault::Memory => write_all(err, b"hap: want of memory\n"),
+        RegularFault::EdgeEnds(cell) => write_rule(err, b"edge ends", cell),
+        RegularFault::NotCycle(cell) => write_rule(err, b"not a cycle", cell),
+        RegularFault::EdgeNotTwice(cell) => write_rule(err, b"edge not twice", cell),
+        RegularFault::Apart(cell) => write_rule(err, b"apart", cell),
+        RegularFault::NotSphere(cell, value) => write_sphere(err, cell, value),
+        RegularFault::Memory => write_all(err, b"hap: want of memory\n"),
     }
 }
 
@@ -225,20 +222,6 @@ fn write_sphere<E: Sink>(err: &mut E, cell: u32, value: i64) -> Result<(), Faile
     )
 }
 
-fn write_regular<E: Sink>(err: &mut E, fault: RegularFault) -> Result<(), Failed>
-    ensures bytes { Writes (E.written err.old) (E.written err.new) (refusals.regular_line fault) result }
-    ensures cause { HasCause (E.faults err.old) (E.faults err.new) result }
-{
-    match fault {
-        RegularFault::EdgeEnds(cell) => write_rule(err, b"edge ends", cell),
-        RegularFault::NotCycle(cell) => write_rule(err, b"not a cycle", cell),
-        RegularFault::EdgeNotTwice(cell) => write_rule(err, b"edge not twice", cell),
-        RegularFault::Apart(cell) => write_rule(err, b"apart", cell),
-        RegularFault::NotSphere(cell, value) => write_sphere(err, cell, value),
-        RegularFault::Memory => write_all(err, b"hap: want of memory\n"),
-    }
-}
-
 fn write_limit<E: Sink>(err: &mut E, limit: u64) -> Result<(), Failed>
     ensures bytes { Writes (E.written err.old) (E.written err.new) (refusals.limit_line limit) result }
     ensures cause { HasCause (E.faults err.old) (E.faults err.new) result }
@@ -267,17 +250,34 @@ fn write_chains<E: Sink>(err: &mut E, count: u64) -> Result<(), Failed>
     )
 }
 
-/// Writes the line of the refusal.
-pub fn write_refusal<E: Sink>(err: &mut E, refusal: Refusal) -> Result<(), Failed>
-    ensures bytes { Writes (E.written err.old) (E.written err.new) (refusals.refusal_line refusal) result }
-    ensures cause { HasCause (E.faults err.old) (E.faults err.new) result }
+/// The status of the refusal.
+pub fn refusal_code(refusal: Refusal) -> u8
+    ensures { result ≡ refusals.refusal_status refusal }
 {
     match refusal {
-        Refusal::TooLong(limit) => write_limit(err, limit),
-        Refusal::Text(fault) => write_text(err, fault),
-        Refusal::Space(fault) => write_space(err, fault),
-        Refusal::Array(fault) => write_array(err, fault),
-        Refusal::Irregular(fault) => write_regular(err, fault),
-        Refusal::Chains(count) => write_chains(err, count),
+        Refusal::TooLong(_) => 5,
+        Refusal::Text(_) => 3,
+        Refusal::Space(fault) => space_code(fault),
+        Refusal::Array(fault) => array_code(fault),
+        Refusal::Irregular(_) => 4,
+        Refusal::Chains(_) => 5,
+    }
+}
+
+fn space_code(fault: SpaceFault) -> u8
+    ensures { result ≡ refusals.space_status fault }
+{
+    match fault {
+        SpaceFault::TooManyCells => 5,
+        _ => 4,
+    }
+}
+
+fn array_code(fault: ArrayFault) -> u8
+    ensures { result ≡ refusals.array_status fault }
+{
+    match fault {
+        ArrayFault::TooManyCells => 5,
+        _ => 4,
     }
 }

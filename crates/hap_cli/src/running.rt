@@ -1,5 +1,5 @@
 // The whole program over the source, the sinks and the words that are handed in.
-ghost use Rattle.std.specs.Prelude.{◌≡◌, ◌≢◌, ◌⊎◌, ◌<◌, true, false, map, string_bytes, IfSome, IsNone, MatchOption};
+ghost use Rattle.std.specs.Prelude.{◌≡◌, ◌≢◌, ◌⊎◌, ◌<◌, true, false, map, string_bytes, IfSome, IsNone};
 ghost use Rattle.std.specs.Io.KnownBytes.{IsAtEnd};
 ghost use Rattle.hap_outside.specs.Causes.{Rose};
 ghost use Rattle.hap_outside.specs.Stores.{bytes_under};
@@ -11,7 +11,7 @@ ghost use Rattle.hap_cli.specs.declared.outcome.Outcome.{Outcome as AnOutcome};
 ghost use Rattle.hap_cli.specs.Input.{input_name, told_store, has_input, reads_input};
 ghost use Rattle.hap_cli.specs.Refusals.{refusal};
 ghost use Rattle.hap_cli.specs.Counting.{Counts, CountsIf};
-ghost use Rattle.hap_cli.specs.Outcomes.{status_of, line_of, status_for, Tells, IsEnd};
+ghost use Rattle.hap_cli.specs.Outcomes.{status_of, line_of, status_for, Tells, IsEnd, EndsBy};
 
 use crate::betti::{few_betti, write_betti};
 use crate::cells::{write_cells, write_check};
@@ -24,6 +24,124 @@ use std::alloc::Global;
 use std::mem::drop;
 use std::sync::ledger::Ledger;
 use step_count::Steps;
+
+/// Does all that the program does, and answers its status: docs/COMMANDS.md lists them. The words are those after the
+/// program's name. The source has not begun; `steps` counts row additions.
+pub fn run<S: Source, K: Sink, E: Sink, L: Ledger>(
+    alloc: Global,
+    words: &[String],
+    source: &mut S,
+    out: &mut K,
+    err: &mut E,
+    steps: &mut Steps<L>,
+) -> u8
+    requires { S.begun source.old ≡ false }
+
+    // How the run ended, with the cause and with what is on the output; its status, and its line on err.
+    ensures ended { (outcome : AnOutcome) × (result ≡ status_of outcome)
+        × Tells (E.written err.old) (E.written err.new) (line_of outcome)
+        (Rose (E.faults err.old) (E.faults err.new))
+        × EndsBy (asked_by (map string_bytes words.now)) (S.store source.old)
+        (Rose (S.faults source.old) (S.faults source.new))
+        (Rose (K.faults out.old) (K.faults out.new))
+        (K.written out.old) (K.written out.new) outcome }
+
+    // A fault of err changes no status: it is that of an end by the words, the source and the output alone.
+    ensures apart { (outcome : AnOutcome) × (result ≡ status_of outcome)
+        × EndsBy (asked_by (map string_bytes words.now)) (S.store source.old)
+        (Rose (S.faults source.old) (S.faults source.new))
+        (Rose (K.faults out.old) (K.faults out.new))
+        (K.written out.old) (K.written out.new) outcome }
+
+    // Where the words are refused, and for a command that reads nothing, the source is untouched.
+    ensures usage { IsNone (asked_by (map string_bytes words.now)) → (result ≡ 2) ⊎ (result ≡ 9) }
+    ensures untouched { reads_input (asked_by (map string_bytes words.now)) ≡ false → source.new ≡ source.old }
+
+    // Where nothing failed outside, the status is that of the refusal, or 0, or memory was wanting.
+    ensures exact { IfSome (asked_by (map string_bytes words.now)) (λ asked.
+        IfSome (bytes_under (told_store asked (S.store source.old)) (input_name asked)) (λ bytes.
+        (Rose (S.faults source.old) (S.faults source.new) → ⊥)
+        → (Rose (K.faults out.old) (K.faults out.new) → ⊥)
+        → (result ≡ status_for (refusal asked bytes)) ⊎ (result ≡ 9))) }
+
+    // Faults come only where the count rose, and always where it is greater after than before.
+    ensures read { result ≡ 7 → Rose (S.faults source.old) (S.faults source.new) }
+    ensures read_told { S.faults source.old < S.faults source.new → result ≡ 7 }
+    ensures write { result ≡ 8 → Rose (K.faults out.old) (K.faults out.new) }
+    ensures write_told { K.faults out.old < K.faults out.new → result ≡ 8 }
+
+    // What is left.
+    ensures end { result ≡ 0 → reads_input (asked_by (map string_bytes words.now)) ≡ true → IsAtEnd (S.left source.new) }
+    ensures nothing { result ≢ 0 → result ≢ 8 → out.new ≡ out.old }
+    ensures silent { result ≡ 0 → err.new ≡ err.old }
+
+    // The row additions of reducing coboundaries are counted, and nothing else.
+    ensures steps { CountsIf (asked_by (map string_bytes words.now)) (S.store source.old) steps.old steps.new }
+{
+    let outcome = perform_words(alloc, words, source, out, steps);
+    end_with(err, outcome)
+}
+
+// Reads the words and does what they ask for.
+fn perform_words<S: Source, K: Sink, L: Ledger>(
+    alloc: Global,
+    words: &[String],
+    source: &mut S,
+    out: &mut K,
+    steps: &mut Steps<L>,
+) -> Outcome
+    requires { S.begun source.old ≡ false }
+    ensures cause { EndsBy (asked_by (map string_bytes words.now)) (S.store source.old)
+        (Rose (S.faults source.old) (S.faults source.new)) (Rose (K.faults out.old) (K.faults out.new))
+        (K.written out.old) (K.written out.new) result }
+    ensures untouched { reads_input (asked_by (map string_bytes words.now)) ≡ false → source.new ≡ source.old }
+    ensures read_told { S.faults source.old < S.faults source.new → result ≡ Outcome.ReadFault }
+    ensures write_told { K.faults out.old < K.faults out.new → result ≡ Outcome.WriteFault }
+    ensures end { result ≡ Outcome.Done → reads_input (asked_by (map string_bytes words.now)) ≡ true
+        → IsAtEnd (S.left source.new) }
+    ensures nothing { result ≢ Outcome.Done → result ≢ Outcome.WriteFault → out.new ≡ out.old }
+    ensures steps { CountsIf (asked_by (map string_bytes words.now)) (S.store source.old) steps.old steps.new }
+{
+    match read(alloc, words) {
+        Ok(command) => {
+            let outcome = perform(alloc, &command, source, out, steps);
+            drop(command);
+            outcome
+        }
+        Err(WordsFault::Usage) => Outcome::Usage,
+        Err(WordsFault::Memory) => Outcome::Memory,
+    }
+}
+
+// Reads the input of the command and writes its answer.
+fn perform<S: Source, K: Sink, L: Ledger>(
+    alloc: Global,
+    command: &Command,
+    source: &mut S,
+    out: &mut K,
+    steps: &mut Steps<L>,
+) -> Outcome
+    requires begun { S.begun source.old ≡ false }
+    requires built { is_built (asked_of command.now) ≡ true }
+    requires ranges { is_in_range (asked_of command.now) ≡ true }
+    ensures cause { IsEnd (asked_of command.now) (S.store source.old)
+        (Rose (S.faults source.old) (S.faults source.new)) (Rose (K.faults out.old) (K.faults out.new))
+        (K.written out.old) (K.written out.new) result }
+    ensures read_told { S.faults source.old < S.faults source.new → result ≡ Outcome.ReadFault }
+    ensures write_told { K.faults out.old < K.faults out.new → result ≡ Outcome.WriteFault }
+    ensures untouched { has_input (asked_of command.now) ≡ false → source.new ≡ source.old }
+    ensures end { result ≡ Outcome.Done → has_input (asked_of command.now) ≡ true → IsAtEnd (S.left source.new) }
+    ensures nothing { result ≢ Outcome.Done → result ≢ Outcome.WriteFault → out.new ≡ out.old }
+    ensures steps { Counts (asked_of command.now) (S.store source.old) steps.old steps.new }
+{
+    match command {
+        Command::Cells { input } => run_cells(alloc, input, source, out),
+        Command::Check { input } => run_check(alloc, input, source, out),
+        Command::Betti { input, modulus } => run_betti(alloc, input, *modulus, source, out, steps),
+        Command::Make { size, modulus } => run_make(alloc, *size, *modulus, out, steps),
+        _ => Outcome::Usage,
+    }
+}
 
 // Reads a space and writes how many cells it has.
 fn run_cells<S: Source, K: Sink>(
@@ -112,119 +230,4 @@ fn run_betti<S: Source, K: Sink, L: Ledger>(
         Err(outcome) => return outcome,
     };
     written(write_betti(out, numbers))
-}
-
-// Reads the input of the command and writes its answer.
-fn perform<S: Source, K: Sink, L: Ledger>(
-    alloc: Global,
-    command: &Command,
-    source: &mut S,
-    out: &mut K,
-    steps: &mut Steps<L>,
-) -> Outcome
-    requires begun { S.begun source.old ≡ false }
-    requires built { is_built (asked_of command.now) ≡ true }
-    requires ranges { is_in_range (asked_of command.now) ≡ true }
-    ensures cause { IsEnd (asked_of command.now) (S.store source.old)
-        (Rose (S.faults source.old) (S.faults source.new)) (Rose (K.faults out.old) (K.faults out.new))
-        (K.written out.old) (K.written out.new) result }
-    ensures read_told { S.faults source.old < S.faults source.new → result ≡ Outcome.ReadFault }
-    ensures write_told { K.faults out.old < K.faults out.new → result ≡ Outcome.WriteFault }
-    ensures untouched { has_input (asked_of command.now) ≡ false → source.new ≡ source.old }
-    ensures end { result ≡ Outcome.Done → has_input (asked_of command.now) ≡ true → IsAtEnd (S.left source.new) }
-    ensures nothing { result ≢ Outcome.Done → result ≢ Outcome.WriteFault → out.new ≡ out.old }
-    ensures steps { Counts (asked_of command.now) (S.store source.old) steps.old steps.new }
-{
-    match command {
-        Command::Cells { input } => run_cells(alloc, input, source, out),
-        Command::Check { input } => run_check(alloc, input, source, out),
-        Command::Betti { input, modulus } => run_betti(alloc, input, *modulus, source, out, steps),
-        Command::Make { size, modulus } => run_make(alloc, *size, *modulus, out, steps),
-        _ => Outcome::Usage,
-    }
-}
-
-// Reads the words and does what they ask for.
-fn perform_words<S: Source, K: Sink, L: Ledger>(
-    alloc: Global,
-    words: &[String],
-    source: &mut S,
-    out: &mut K,
-    steps: &mut Steps<L>,
-) -> Outcome
-    requires { S.begun source.old ≡ false }
-    ensures cause { MatchOption (asked_by (map string_bytes words.now))
-        ((result ≡ Outcome.Usage) ⊎ (result ≡ Outcome.Memory)) (λ asked.
-        IsEnd asked (S.store source.old)
-        (Rose (S.faults source.old) (S.faults source.new)) (Rose (K.faults out.old) (K.faults out.new))
-        (K.written out.old) (K.written out.new) result) }
-    ensures untouched { reads_input (asked_by (map string_bytes words.now)) ≡ false → source.new ≡ source.old }
-    ensures read_told { S.faults source.old < S.faults source.new → result ≡ Outcome.ReadFault }
-    ensures write_told { K.faults out.old < K.faults out.new → result ≡ Outcome.WriteFault }
-    ensures end { result ≡ Outcome.Done → reads_input (asked_by (map string_bytes words.now)) ≡ true
-        → IsAtEnd (S.left source.new) }
-    ensures nothing { result ≢ Outcome.Done → result ≢ Outcome.WriteFault → out.new ≡ out.old }
-    ensures steps { CountsIf (asked_by (map string_bytes words.now)) (S.store source.old) steps.old steps.new }
-{
-    match read(alloc, words) {
-        Ok(command) => {
-            let outcome = perform(alloc, &command, source, out, steps);
-            drop(command);
-            outcome
-        }
-        Err(WordsFault::Usage) => Outcome::Usage,
-        Err(WordsFault::Memory) => Outcome::Memory,
-    }
-}
-
-/// Does all that the program does, and answers its status. The words are those after the program's name.
-pub fn run<S: Source, K: Sink, E: Sink, L: Ledger>(
-    alloc: Global,
-    words: &[String],
-    source: &mut S,
-    out: &mut K,
-    err: &mut E,
-    steps: &mut Steps<L>,
-) -> u8
-    requires { S.begun source.old ≡ false }
-
-    // How the run ended, its status and its line on err, with the cause and with what is on the output. Where
-    // the words are refused, that is the cause, or memory was wanting to read them.
-    ensures ended { (outcome : AnOutcome) × (result ≡ status_of outcome)
-        × Tells (E.written err.old) (E.written err.new) (line_of outcome)
-        (Rose (E.faults err.old) (E.faults err.new))
-        × MatchOption (asked_by (map string_bytes words.now))
-        ((outcome ≡ Outcome.Usage) ⊎ (outcome ≡ Outcome.Memory)) (λ asked.
-        IsEnd asked (S.store source.old)
-        (Rose (S.faults source.old) (S.faults source.new))
-        (Rose (K.faults out.old) (K.faults out.new))
-        (K.written out.old) (K.written out.new) outcome) }
-
-    // Where the words are refused, and for a command that reads nothing, the source is untouched.
-    ensures usage { IsNone (asked_by (map string_bytes words.now)) → (result ≡ 2) ⊎ (result ≡ 9) }
-    ensures untouched { reads_input (asked_by (map string_bytes words.now)) ≡ false → source.new ≡ source.old }
-
-    // Where nothing failed outside, the status is that of the refusal, or 0, or memory was wanting.
-    ensures exact { IfSome (asked_by (map string_bytes words.now)) (λ asked.
-        IfSome (bytes_under (told_store asked (S.store source.old)) (input_name asked)) (λ bytes.
-        (Rose (S.faults source.old) (S.faults source.new) → ⊥)
-        → (Rose (K.faults out.old) (K.faults out.new) → ⊥)
-        → (result ≡ status_for (refusal asked bytes)) ⊎ (result ≡ 9))) }
-
-    // Faults come only where the count rose, and always where it is greater after than before.
-    ensures read { result ≡ 7 → Rose (S.faults source.old) (S.faults source.new) }
-    ensures read_told { S.faults source.old < S.faults source.new → result ≡ 7 }
-    ensures write { result ≡ 8 → Rose (K.faults out.old) (K.faults out.new) }
-    ensures write_told { K.faults out.old < K.faults out.new → result ≡ 8 }
-
-    // What is left.
-    ensures end { result ≡ 0 → reads_input (asked_by (map string_bytes words.now)) ≡ true → IsAtEnd (S.left source.new) }
-    ensures nothing { result ≢ 0 → result ≢ 8 → out.new ≡ out.old }
-    ensures silent { result ≡ 0 → err.new ≡ err.old }
-
-    // The row additions of reducing coboundaries are counted, and nothing else.
-    ensures steps { CountsIf (asked_by (map string_bytes words.now)) (S.store source.old) steps.old steps.new }
-{
-    let outcome = perform_words(alloc, words, source, out, steps);
-    end_with(err, outcome)
 }

@@ -20,29 +20,6 @@ use regular_check::{Regular, check};
 use std::alloc::Global;
 use voxel_spaces::{arcs, cubical};
 
-/// The space of a nested list, by the kind of the input.
-fn space_of_nest(alloc: Global, kind: Kind, nest: &Nest) -> Result<Space, Outcome>
-    ensures space { IfOk result (λ space. space_of_kind kind (view nest.now) ≡ Ok space) }
-    ensures outcome { IfErr result (Fails (space_of_kind kind (view nest.now))) }
-{
-    match kind {
-        Kind::Boundary => Ok(from_nest(alloc, nest)?),
-        Kind::Cubical => Ok(cubical(alloc, nest)?),
-        Kind::Permutahedral => Ok(permutahedral(alloc, nest)?),
-        Kind::Arcs => Ok(arcs(alloc, nest)?),
-    }
-}
-
-/// The space of the bytes, or how the run ends without one.
-fn space_of_bytes(alloc: Global, kind: Kind, bytes: &[u8]) -> Result<Space, Outcome>
-    requires { length bytes.now ≤ 67108864 }
-    ensures space { IfOk result (λ space. space_in kind bytes.now ≡ Ok space) }
-    ensures outcome { IfErr result (Fails (space_in kind bytes.now)) }
-{
-    let nest = parse(alloc, bytes)?;
-    space_of_nest(alloc, kind, &nest)
-}
-
 /// Reads the space of the input, or says how the run ends without one.
 pub fn read_space<S: Source>(alloc: Global, input: &Input, source: &mut S) -> Result<Space, Outcome>
     requires { S.begun source.old ≡ false }
@@ -60,6 +37,29 @@ pub fn read_space<S: Source>(alloc: Global, input: &Input, source: &mut S) -> Re
         Err(ReadAll::Memory) => return Err(Outcome::Memory),
     };
     space_of_bytes(alloc, input.kind, &bytes)
+}
+
+/// The space of the bytes, or how the run ends without one.
+fn space_of_bytes(alloc: Global, kind: Kind, bytes: &[u8]) -> Result<Space, Outcome>
+    requires { length bytes.now ≤ 67108864 }
+    ensures space { IfOk result (λ space. space_in kind bytes.now ≡ Ok space) }
+    ensures outcome { IfErr result (Fails (space_in kind bytes.now)) }
+{
+    let nest = parse(alloc, bytes)?;
+    space_of_nest(alloc, kind, &nest)
+}
+
+/// The space of a nested list, by the kind of the input.
+fn space_of_nest(alloc: Global, kind: Kind, nest: &Nest) -> Result<Space, Outcome>
+    ensures space { IfOk result (λ space. space_of_kind kind (view nest.now) ≡ Ok space) }
+    ensures outcome { IfErr result (Fails (space_of_kind kind (view nest.now))) }
+{
+    match kind {
+        Kind::Boundary => Ok(from_nest(alloc, nest)?),
+        Kind::Cubical => Ok(cubical(alloc, nest)?),
+        Kind::Permutahedral => Ok(permutahedral(alloc, nest)?),
+        Kind::Arcs => Ok(arcs(alloc, nest)?),
+    }
 }
 
 /// The space as a regular one, or how the run ends where it is none.

@@ -4,7 +4,7 @@ use Rattle.hap_cli.proofs.Ends.{asked_end, memory_end}
 use Rattle.hap_cli.proofs.running.perform_words.Goals as goal
 
 pub returns-in-Ok-clause-cause : goal.returns-in-Ok-clause-cause
-returns-in-Ok-clause-cause g c = asked_end _ _ _ _ c.in-Ok.ensures.asked c.perform-outcome.ensures.cause
+returns-in-Ok-clause-cause g c = asked_end _ _ _ _ _ _ _ _ c.in-Ok.ensures.asked c.perform-outcome.ensures.cause
 
 pub returns-in-Err-Memory-clause-cause : goal.returns-in-Err-Memory-clause-cause
 returns-in-Err-Memory-clause-cause g c = memory_end _ (g.S.Source.store c.args.source.now)

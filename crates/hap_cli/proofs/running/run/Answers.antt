@@ -5,8 +5,13 @@ pub returns-clause-ended : goal.returns-clause-ended
 returns-clause-ended g c =
     (c.perform_words-outcome.result, c.end_with.ensures.status, c.end_with.ensures.line, c.perform_words-outcome.ensures.cause)
 
+pub returns-clause-apart : goal.returns-clause-apart
+returns-clause-apart g c = (c.perform_words-outcome.result, c.end_with.ensures.status, c.perform_words-outcome.ensures.cause)
+
 pub returns-clause-usage : goal.returns-clause-usage
-returns-clause-usage g c = usage_end _ c.perform_words-outcome.result _ c.end_with.result c.end_with.ensures.status c.perform_words-outcome.ensures.cause
+returns-clause-usage g c =
+    usage_end _ (g.S.Source.store c.args.source.now) _ _ (g.K.Sink.written c.args.out.now) (g.K.Sink.written c.perform_words-outcome.new.out) c.perform_words-outcome.result c.end_with.result
+    c.end_with.ensures.status c.perform_words-outcome.ensures.cause
 
 pub returns-clause-exact : goal.returns-clause-exact
 returns-clause-exact g c =
