@@ -1,7 +1,7 @@
 -- Lemmas on answers one after another.
 use Rattle.std.proofs.Common.{◌≡◌, ◌<◌, ◌+◌, ◌++◌, ◌∷◌, [], ℕ, suc, List, length, take, drop, refl, sym, ◌∙◌, ap, arith, Result, Ok, Err, Some, slice_get, append_assoc, append-nil}
-use Rattle.std.proofs.lemmas.List.{take_more, drop_more, take-append-drop, length-take-le}
-use Rattle.std.proofs.lemmas.Option.{get_or_from_slice_get}
+use Rattle.std.proofs.lemmas.List.{length-take-le}
+use Rattle.number_lists.proofs.CallerLemmas.{take-slice_get, split-slice_get}
 use Rattle.array_values.specs.declared.fault.ArrayFault.{ArrayFault}
 use Rattle.array_values.specs.Answers.{and_then, gather_from}
 
@@ -36,22 +36,13 @@ gather-stop n f (z ∷ xs) x more ys e h k =
     ap (λ (r : Result _ ArrayFault). and_then r (λ us. and_then (gather_from (suc n) f (xs ++ x ∷ more)) (λ vs. Ok (us ++ vs)))) a
     ∙ ap (λ (r : Result _ ArrayFault). and_then r (λ us. Ok (w ++ us))) (gather-stop (suc n) f xs x more ws e b at)
 
--- a list that was read at a place
-
-pub take_at : {A : Type 0} (xs : List A) (i : ℕ) (x : A) → i < length xs → slice_get xs i ≡ Some x → take (i + 1) xs ≡ take i xs ++ x ∷ []
-take_at xs i x l e = take_more xs i x l ∙ ap (λ (y : _). take i xs ++ y ∷ []) (get_or_from_slice_get xs i x x e)
-
-pub split_at : {A : Type 0} (xs : List A) (i : ℕ) (x : A) → i < length xs → slice_get xs i ≡ Some x → take i xs ++ x ∷ drop (i + 1) xs ≡ xs
-split_at xs i x l e =
-    ap (λ (y : _). take i xs ++ y ∷ drop (i + 1) xs) (sym (get_or_from_slice_get xs i x x e)) ∙ (ap (λ (ys : List _). take i xs ++ ys) (sym (drop_more xs i x l)) ∙ take-append-drop i xs)
-
 -- one step of a loop over a list
 pub gather-more : {A B : Type 0} (n : ℕ) (f : ℕ → A → Result (List B) ArrayFault) (xs : List A) (i : ℕ) (x : A) (ys zs : List B) → i < length xs → slice_get xs i ≡ Some x
     → gather_from n f (take i xs) ≡ Ok ys → f (n + i) x ≡ Ok zs → gather_from n f (take (i + 1) xs) ≡ Ok (ys ++ zs)
 gather-more n f xs i x ys zs l e h k =
     let short : length (take i xs) ≡ i = length-take-le i xs (omega arith) in
     let at : f (n + length (take i xs)) x ≡ Ok zs = ap (λ (m : ℕ). f (n + m) x) short ∙ k in
-    ap (gather_from n f) (take_at xs i x l e) ∙ gather-push n f (take i xs) x ys zs h at
+    ap (gather_from n f) (take-slice_get xs i x l e) ∙ gather-push n f (take i xs) x ys zs h at
 
 -- the first fault
 pub gather-fault : {A B : Type 0} (n : ℕ) (f : ℕ → A → Result (List B) ArrayFault) (xs : List A) (i : ℕ) (x : A) (ys : List B) (d : ArrayFault) → i < length xs → slice_get xs i ≡ Some x
@@ -59,4 +50,4 @@ pub gather-fault : {A B : Type 0} (n : ℕ) (f : ℕ → A → Result (List B) A
 gather-fault n f xs i x ys d l e h k =
     let short : length (take i xs) ≡ i = length-take-le i xs (omega arith) in
     let at : f (n + length (take i xs)) x ≡ Err d = ap (λ (m : ℕ). f (n + m) x) short ∙ k in
-    ap (gather_from n f) (sym (split_at xs i x l e)) ∙ gather-stop n f (take i xs) x (drop (i + 1) xs) ys d h at
+    ap (gather_from n f) (sym (split-slice_get xs i x l e)) ∙ gather-stop n f (take i xs) x (drop (i + 1) xs) ys d h at

@@ -1,4 +1,5 @@
-pub mod Examples
-pub mod Gather
-pub mod Rows
-pub mod Levels
+mod Gather
+mod Rows
+mod Levels
+mod Examples
+pub mod CallerLemmas

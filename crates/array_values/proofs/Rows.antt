@@ -1,12 +1,13 @@
 -- Lemmas on the rows of a presentation.
 use Rattle.std.proofs.Common.{◌≡◌, ◌≢◌, ◌<◌, ◌≤◌, ◌+◌, ◌∷◌, [], ℕ, zero, suc, List, length, take, refl, ap, ◌∙◌, sym, arith, Option, Some, None, Ok, Err, slice_get, Bool, true, false, cond, not, ◌&&◌, ◌||◌, ◌==◌, nat_lt, nat_le, get_or, set, length-set, inl, inr, ◌⊎◌, eq-eqb, count_by, get_or-set_other, get_or-set_same}
 use Rattle.std.proofs.Math.Bool.{or-true}
-use Rattle.std.proofs.lemmas.Bool.{leb-true, eqb-false, ne_eqb}
+use Rattle.std.proofs.lemmas.Bool.{leb-true, eqb-false, ne_eqb, and_parts, not-true}
 use Rattle.std.proofs.lemmas.Bool.Decides.{eqb_tells}
 use Rattle.std.proofs.lemmas.List.{length-take-le}
 use Rattle.std.proofs.lemmas.List.Sums.{count_by-le-length, count_by_more_yes, count_by_more_no}
 use Rattle.std.specs.List.{find, list_all, range_with_len}
 use Rattle.gap_text.specs.Value.{Value, list, items, values}
+use Rattle.number_lists.proofs.CallerLemmas.{In-all, range-In}
 use Rattle.array_values.specs.declared.fault.ArrayFault.TheVariants.{ColumnCount}
 use Rattle.array_values.specs.Answers.{and_then, gather_from}
 use Rattle.array_values.specs.Arcs.{pair_of, pair_in, both, number_of, is_column, is_row, is_twice, has_column, unless_column, counted, row_of, rows_of, arcs_of}
@@ -41,16 +42,8 @@ pair_of-first (x ∷ y ∷ z ∷ zs) v n a b = refl
 
 -- ---- the first column that is not in two rows
 
-pub all_rows-at : (p : ℕ × ℕ → Bool) (rows : List (ℕ × ℕ)) (i : ℕ) (d : ℕ × ℕ) → list_all p rows ≡ true → i < length rows → p (get_or rows i d) ≡ true
-all_rows-at p [] i d h l = absurd (omega arith)
-all_rows-at p (r ∷ rows) zero d h l = elim (p r) as (λ b. b && list_all p rows ≡ true → b ≡ true) [ true ↦ λ _. refl | false ↦ λ e. e ] h
-all_rows-at p (r ∷ rows) (suc i) d h l =
-    all_rows-at p rows i d (elim (p r) as (λ b. b && list_all p rows ≡ true → list_all p rows ≡ true) [ true ↦ λ e. e | false ↦ λ e. cc ] h) (omega arith)
-
 pub all_from : (p : ℕ → Bool) (s n : ℕ) → ((c : ℕ) → s ≤ c → c < s + n → p c ≡ true) → list_all p (range_with_len s n) ≡ true
-all_from p s zero h = refl
-all_from p s (suc n) h =
-    ap (λ (b : Bool). b && list_all p (range_with_len (s + 1) n)) (h s (omega arith) (omega arith)) ∙ all_from p (s + 1) n (λ c low high. h c (omega arith) (omega arith))
+all_from p s n h = In-all p (range_with_len s n) (λ c i. let r = range-In s n c i in h c r.0 r.1)
 
 pub find-none : (p : ℕ → Bool) (xs : List ℕ) → list_all p xs ≡ true → find (λ c. not (p c)) xs ≡ None
 find-none p [] h = refl
@@ -79,20 +72,12 @@ pub record IsPair (k a b : ℕ) : Type 0 where
   pub right : b ≤ k
   pub differ : a ≢ b
 
-and-split : (a b : Bool) → (a && b) ≡ true → (a ≡ true) × (b ≡ true)
-and-split true b h = (refl, h)
-and-split false b h = cc
-
-not-true : (b : Bool) → not b ≡ true → b ≡ false
-not-true true h = cc
-not-true false h = refl
-
 pub row-pair : (k : ℕ) (p : ℕ × ℕ) → is_row k p ≡ true → IsPair k p.0 p.1
 row-pair k p h =
-    let one = and-split (is_column k p.0) (is_column k p.1 && not (p.0 == p.1)) h in
-    let two = and-split (is_column k p.1) (not (p.0 == p.1)) one.1 in
-    let l = and-split (nat_lt 0 p.0) (nat_le p.0 k) one.0 in
-    let r = and-split (nat_lt 0 p.1) (nat_le p.1 k) two.0 in
+    let one = and_parts (is_column k p.0) (is_column k p.1 && not (p.0 == p.1)) h in
+    let two = and_parts (is_column k p.1) (not (p.0 == p.1)) one.1 in
+    let l = and_parts (nat_lt 0 p.0) (nat_le p.0 k) one.0 in
+    let r = and_parts (nat_lt 0 p.1) (nat_le p.1 k) two.0 in
     record {
       left = leb-true p.0 k l.1;
       right = leb-true p.1 k r.1;

@@ -1,7 +1,23 @@
 -- An arc presentation: k rows, each of two different columns, which are numbered from 1 to k, and each column in exactly two rows.
 -- Or its first fault: a number at the top, no row, the first row that is none, the first column that is not in exactly two rows.
 -- (Arc presentations, or grid diagrams, of knots and links: textbook.)
-use Rattle.std.specs.Prelude.{◌≡◌, ℕ, List, [], ◌∷◌, length, Bool, true, cond, not, ◌||◌, ◌&&◌, ◌==◌, nat_le, nat_lt, count_by, Option, Some, None, Result, Ok, Err}
+-- v is a value, p the two columns of a row, rows the list of these.
+--   number_of v               the number that a value is
+--   both m n                  two answers as one
+--   pair_of vs                the two numbers that two values are
+--   pair_in v                 the two numbers that a list is
+--   is_column k n             whether there is a column n of k
+--   is_row k p                whether these are two different columns of k
+--   checked k n pair          the row that was found as row n, or the fault
+--   row_of k n v              row n of k rows
+--   has_column c p            whether a row has a column
+--   is_twice rows c           whether a column is in exactly two rows
+--   unless_column c rows      the rows, where no column is wrong
+--   counted rows              rows whose columns are each in exactly two of them, or the first column that is not
+--   rows_of vs                the rows that these values are
+--   arcs_of v                 the presentation that a value is
+--   IsPresentation rows       what is true of the rows of a presentation
+use Rattle.std.specs.Prelude.{◌≡◌, ℕ, List, [], ◌∷◌, length, Bool, true, if◌then◌else◌, not, ◌||◌, ◌&&◌, ◌==◌, nat_le, nat_lt, count_by, Option, Some, None, Result, Ok, Err}
 use Rattle.std.specs.List.{find, list_all, range_with_len}
 use Rattle.gap_text.specs.Value.{Value, number, list, items}
 use Rattle.array_values.specs.declared.fault.ArrayFault.{ArrayFault}
@@ -17,7 +33,6 @@ both None n = None
 both (Some m) None = None
 both (Some m) (Some n) = Some (m, n)
 
--- the two numbers that two values are
 abbrev pub pair_of : List Value → Option (ℕ × ℕ)
 pair_of (v ∷ w ∷ []) = both (number_of v) (number_of w)
 pair_of _ = None
@@ -29,22 +44,19 @@ pair_in (list p vs) = pair_of (items vs)
 abbrev pub is_column : (k n : ℕ) → Bool
 is_column k n = nat_lt 0 n && nat_le n k
 
--- two different columns
 abbrev pub is_row : (k : ℕ) → ℕ × ℕ → Bool
 is_row k p = is_column k p.0 && (is_column k p.1 && not (p.0 == p.1))
 
 abbrev pub checked : (k n : ℕ) → Option (ℕ × ℕ) → Result (List (ℕ × ℕ)) ArrayFault
 checked k n None = Err (BadPair n)
-checked k n (Some p) = cond (is_row k p) (Ok (p ∷ [])) (Err (BadPair n))
+checked k n (Some p) = if is_row k p then Ok (p ∷ []) else Err (BadPair n)
 
--- row number n of k rows
 abbrev pub row_of : (k n : ℕ) → Value → Result (List (ℕ × ℕ)) ArrayFault
 row_of k n v = checked k n (pair_in v)
 
 abbrev pub has_column : (c : ℕ) → ℕ × ℕ → Bool
 has_column c p = (p.0 == c) || (p.1 == c)
 
--- whether a column is in exactly two rows
 abbrev pub is_twice : List (ℕ × ℕ) → (c : ℕ) → Bool
 is_twice rows c = count_by (has_column c) rows == 2
 
@@ -52,7 +64,6 @@ abbrev pub unless_column : Option ℕ → List (ℕ × ℕ) → Result (List (�
 unless_column None rows = Ok rows
 unless_column (Some c) rows = Err (ColumnCount c)
 
--- rows whose columns are each in exactly two of them
 abbrev pub counted : List (ℕ × ℕ) → Result (List (ℕ × ℕ)) ArrayFault
 counted rows = unless_column (find (λ c. not (is_twice rows c)) (range_with_len 1 (length rows))) rows
 
@@ -64,7 +75,6 @@ abbrev pub arcs_of : Value → Result (List (ℕ × ℕ)) ArrayFault
 arcs_of (number p n) = Err BadDimension
 arcs_of (list p vs) = rows_of (items vs)
 
--- what is true of the rows of an arc presentation
 pub record IsPresentation (rows : List (ℕ × ℕ)) : Type 0 where
   pub pairs : list_all (is_row (length rows)) rows ≡ true
   pub columns : list_all (is_twice rows) (range_with_len 1 (length rows)) ≡ true

@@ -4,19 +4,29 @@
 -- The faults are looked for in this order. On the way by first items to a number: an empty list. Then a depth that is not allowed, and a
 -- number at the top. Then item by item in reading order, each list before its items: a number above the lowest level, a list at the
 -- lowest level, a list of another length than the first of its level, a number that is not 0 or 1. Last, no 1 at all.
-use Rattle.std.specs.Prelude.{◌≡◌, ◌≤◌, ℕ, ◌*◌, ◌++◌, List, [], ◌∷◌, length, Bool, true, false, cond, ◌==◌, nat_le, Result, Ok, Err}
+-- v is a value, sizes the length of the lists of each level, the outermost first.
+--   Bits                         sizes, and the bits in reading order
+--   sizes_of v                   the length of the first list of each level: on the way by first items to a number
+--   sizes_from p vs              those of a list at byte p
+--   items_of size v              the items of a list of this length
+--   bit_of v                     a bit by itself
+--   bits_of sizes v              the bits of an array of these sizes
+--   is_allowed least most depth  whether an array may have so many levels
+--   array_of least most v        the array of a value, where arrays of least to most levels are allowed
+--   volume sizes                 how many bits an array of these sizes has
+--   IsArray least most a         what is true of the array of a value
+--   IsAppended read old new      the bits were read, and stand last
+use Rattle.std.specs.Prelude.{◌≡◌, ◌≤◌, ℕ, ◌*◌, ◌++◌, List, [], ◌∷◌, length, Bool, true, false, if◌then◌else◌, ◌==◌, nat_le, Result, Ok, Err}
 use Rattle.std.specs.List.{list_any}
 use Rattle.gap_text.specs.Value.{Value, Values, number, list, none, more, items}
 use Rattle.array_values.specs.declared.fault.ArrayFault.{ArrayFault}
 use Rattle.array_values.specs.declared.fault.ArrayFault.TheVariants.{Ragged, NotBit, BadDimension, Empty}
 use Rattle.array_values.specs.Answers.{and_then, gather_from}
 
--- the length of the lists of each level, the outermost first, and the bits in reading order
 pub record Bits : Type 0 where
   pub sizes : List ℕ
   pub bits : List Bool
 
--- the length of the first list of each level: on the way by first items to a number
 abbrev mutual
   pub sizes_of : Value → Result (List ℕ) ArrayFault
   sizes_of (number p n) = Ok []
@@ -26,44 +36,37 @@ abbrev mutual
   sizes_from p none = Err (Ragged p)
   sizes_from p (more v vs) = and_then (sizes_of v) (λ sizes. Ok (length (items (more v vs)) ∷ sizes))
 
--- the items of a list of this length
 abbrev pub items_of : (size : ℕ) → Value → Result (List Value) ArrayFault
 items_of size (number p n) = Err (Ragged p)
-items_of size (list p vs) = cond (length (items vs) == size) (Ok (items vs)) (Err (Ragged p))
+items_of size (list p vs) = if length (items vs) == size then Ok (items vs) else Err (Ragged p)
 
--- a bit by itself
 abbrev pub bit_of : Value → Result (List Bool) ArrayFault
-bit_of (number p n) = cond (nat_le n 1) (Ok ((n == 1) ∷ [])) (Err (NotBit p))
+bit_of (number p n) = if nat_le n 1 then Ok ((n == 1) ∷ []) else Err (NotBit p)
 bit_of (list p vs) = Err (Ragged p)
 
--- the bits of an array of these sizes
 abbrev pub bits_of : (sizes : List ℕ) → Value → Result (List Bool) ArrayFault
 bits_of [] v = bit_of v
 bits_of (size ∷ sizes) v = and_then (items_of size v) (gather_from 0 (λ _ w. bits_of sizes w))
 
 abbrev pub is_allowed : (least most depth : ℕ) → Bool
-is_allowed least most depth = cond (nat_le least depth) (nat_le depth most) false
+is_allowed least most depth = if nat_le least depth then nat_le depth most else false
 
--- the array of a value, where arrays of these depths are allowed
 abbrev pub array_of : (least most : ℕ) → Value → Result Bits ArrayFault
 array_of least most v =
     and_then (sizes_of v) (λ sizes.
-    cond (is_allowed least most (length sizes))
-    (and_then (bits_of sizes v) (λ bits. cond (list_any (λ b. b) bits) (Ok (record { sizes = sizes; bits = bits })) (Err Empty)))
-    (Err BadDimension))
+    if is_allowed least most (length sizes)
+    then and_then (bits_of sizes v) (λ bits. if list_any (λ b. b) bits then Ok (record { sizes = sizes; bits = bits }) else Err Empty)
+    else Err BadDimension)
 
--- how many bits an array of these sizes has
 abbrev pub volume : (sizes : List ℕ) → ℕ
 volume [] = 1
 volume (size ∷ sizes) = size * volume sizes
 
--- what is true of the array of a value
 pub record IsArray (least most : ℕ) (a : Bits) : Type 0 where
   pub shallow : length a.sizes ≤ most
   pub deep : least ≤ length a.sizes
   pub full : length a.bits ≡ volume a.sizes
   pub has_one : list_any (λ b. b) a.bits ≡ true
 
--- the bits were read, and stand last
 abbrev pub IsAppended : Result (List Bool) ArrayFault → (old new : List Bool) → Type 0
 IsAppended read old new = (bits : List Bool) × (read ≡ Ok bits) × (new ≡ old ++ bits)

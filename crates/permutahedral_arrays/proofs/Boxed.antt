@@ -4,12 +4,13 @@ use Rattle.std.specs.List.{range_with_len, flat_map, list_any, list_all}
 use Rattle.std.proofs.lemmas.Bool.{false≢true, and_from}
 use Rattle.std.proofs.lemmas.List.{append-nil}
 use Rattle.std.proofs.lemmas.Nat.{mod_below, div_below}
-use Rattle.number_lists.proofs.CallerLemmas.{and-left, and-right, same_bool}
-use Rattle.tuple_spaces.specs.Tuples.{same}
-use Rattle.tuple_spaces.proofs.Triples.{same-eq}
+use Rattle.number_lists.proofs.CallerLemmas.{and-left, and-right, filter-flat_map, map-flat_map}
+use Rattle.std.specs.Cmp.{both_ways}
+use Rattle.tuple_spaces.specs.Tuples.{same, boxed}
+use Rattle.tuple_spaces.proofs.CallerLemmas.{same-eq}
 use Rattle.permutahedral_arrays.specs.Places as places
-use Rattle.permutahedral_arrays.specs.Permutahedra.{boxed, moved, vectors, still, chains, sequences, is_among, cells_of, present_of}
-use Rattle.permutahedral_arrays.proofs.Loops.{as_three, same_three, less_three, less_rows, same_loop, none_loop, boxed_two, boxed_three, all-loop, all-filter, filter-flat_map, map-flat_map}
+use Rattle.permutahedral_arrays.specs.Permutahedra.{moved, vectors, still, chains, sequences, is_among, cells_of, present_of}
+use Rattle.permutahedral_arrays.proofs.Loops.{as_three, same_three, less_three, less_rows, same_loop, none_loop, boxed_two, boxed_three, all-loop, all-filter}
 use Rattle.permutahedral_arrays.proofs.Marked.{slab_of, past_planes, past_rows, past_columns, place_once, length-marks, mark_moved, step_place}
 use Rattle.permutahedral_arrays.proofs.Found.{present_three, present_two}
 use Rattle.permutahedral_arrays.proofs.Images.{sequences-are, cells-placed, no-cells, good-cells}
@@ -56,7 +57,7 @@ same_triple x y z u v w a b c = and_from (eqb x u) (eqb y v && (eqb z w && true)
 
 once_fitting : (r k : ℕ) {t u : List ℕ} → Fitting r k t → Fitting r k u → eqb (place_of r k u) (place_of r k t) ≡ same t u
 once_fitting r k (fitting x y z a b) (fitting u v w c d) =
-    same_bool (eqb (place_of r k (u ∷ v ∷ w ∷ [])) (place_of r k (x ∷ y ∷ z ∷ []))) (same (x ∷ y ∷ z ∷ []) (u ∷ v ∷ w ∷ []))
+    both_ways (eqb (place_of r k (u ∷ v ∷ w ∷ [])) (place_of r k (x ∷ y ∷ z ∷ []))) (same (x ∷ y ∷ z ∷ []) (u ∷ v ∷ w ∷ []))
     (λ e.
     let s : u * slab_of r k + (v * (k + 2) + w) + 1 ≡ x * slab_of r k + (y * (k + 2) + z) + 1 = eqb-true (u * slab_of r k + (v * (k + 2) + w) + 1) (x * slab_of r k + (y * (k + 2) + z) + 1) e in
     let o = place_once x y z u v w (r + 2) (k + 2) a b c d (omega (arith, s)) in

@@ -7,8 +7,8 @@ use Rattle.std.proofs.lemmas.Bool.{false≢true, leb-true, ltb-true}
 use Rattle.std.proofs.lemmas.List.Elements.{All-cons, All-nil}
 use Rattle.face_poset.specs.Poset.{IsCell}
 use Rattle.number_lists.proofs.CallerLemmas.{and-left, and-right}
-use Rattle.tuple_spaces.proofs.TorusStages.{by_dim}
-use Rattle.permutahedral_arrays.specs.Places.{step, is_below, shapes_in, cell_at, holds}
+use Rattle.tuple_spaces.proofs.CallerLemmas.{by_dim}
+use Rattle.permutahedral_arrays.specs.Places.{step, is_below, shapes_in, cell_at, holds_all}
 
 -- ---- steps
 
@@ -88,7 +88,7 @@ climb slab row first most a b low high (v ∷ w ∷ s) h =
 
 -- each shape lies in one of those above
 abbrev pub are_refined : (above shapes : List (List ℕ)) → Bool
-are_refined above shapes = list_all (λ s. list_any (λ t. holds t s) above) shapes
+are_refined above shapes = list_all (λ s. list_any (λ t. holds_all t s) above) shapes
 
 -- a fact at two and at three levels
 at_depth : (P : ℕ → Type 0) → P 2 → P 3 → (depth : ℕ) → 2 ≤ depth → depth ≤ 3 → P depth

@@ -8,9 +8,9 @@ use Rattle.array_values.specs.declared.fault.ArrayFault.{ArrayFault}
 use Rattle.array_values.specs.declared.fault.ArrayFault.TheVariants.{TooManyCells, BadDimension, Empty}
 use Rattle.array_values.specs.Answers.{and_then}
 use Rattle.array_values.specs.Bits.{Bits, sizes_of, bits_of, is_allowed}
-use Rattle.tuple_spaces.specs.Tuples.{same}
+use Rattle.tuple_spaces.specs.Tuples.{same, boxed}
 use Rattle.permutahedral_arrays.specs.Places as places
-use Rattle.permutahedral_arrays.specs.Permutahedra.{boxed, vectors, still, chains, moved, sequences, is_among, facets_of, cells_of, space_of, limited, present_of, permutahedral_of}
+use Rattle.permutahedral_arrays.specs.Permutahedra.{vectors, still, chains, moved, sequences, is_among, facets_of, cells_of, space_of, limited, present_of, permutahedral_of}
 use Rattle.permutahedral_arrays.proofs.Loops.{none_of}
 use Rattle.permutahedral_arrays.proofs.Marked.{slab_of}
 use Rattle.permutahedral_arrays.proofs.Images.{layer-same}

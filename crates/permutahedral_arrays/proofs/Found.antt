@@ -4,11 +4,12 @@ use Rattle.std.specs.List.{range_with_len, flat_map, list_any, items_where_true}
 use Rattle.std.proofs.lemmas.Bool.{cases_lt, false≢true, and_from}
 use Rattle.std.proofs.lemmas.List.{length-append, length-map, get_or-drop, drop-drop}
 use Rattle.std.proofs.lemmas.List.Folds.{list_any-append}
-use Rattle.number_lists.proofs.CallerLemmas.{same_bool}
-use Rattle.tuple_spaces.specs.Tuples.{same}
+use Rattle.std.specs.Cmp.{both_ways}
+use Rattle.tuple_spaces.specs.Tuples.{same, boxed}
 use Rattle.permutahedral_arrays.specs.Places.{is_inside, mark_at}
-use Rattle.permutahedral_arrays.specs.Permutahedra.{boxed, present_of, is_among}
+use Rattle.permutahedral_arrays.specs.Permutahedra.{present_of, is_among}
 use Rattle.permutahedral_arrays.proofs.Marked.{inside, past_planes, past_rows, past_columns}
+use Rattle.tuple_spaces.proofs.CallerLemmas.{where-map}
 
 -- ---- lists
 
@@ -21,12 +22,6 @@ where-append bits [] ys = ap (λ zs. zs ++ items_where_true bits ys) (sym (where
 where-append [] (x ∷ xs) ys = refl
 where-append (true ∷ bits) (x ∷ xs) ys = ap (λ zs. x ∷ zs) (where-append bits xs ys)
 where-append (false ∷ bits) (x ∷ xs) ys = where-append bits xs ys
-
-where-map : {A B : Type 0} (f : A → B) (bits : List Bool) (xs : List A) → items_where_true bits (map f xs) ≡ map f (items_where_true bits xs)
-where-map f [] xs = refl
-where-map f (b ∷ bits) [] = refl
-where-map f (true ∷ bits) (x ∷ xs) = ap (λ ys. f x ∷ ys) (where-map f bits xs)
-where-map f (false ∷ bits) (x ∷ xs) = where-map f bits xs
 
 -- ---- one block after another
 
@@ -142,7 +137,7 @@ three_left p r k x y z bits l m n =
 
 eqb-suc : (a b : ℕ) → eqb (suc a) (suc b) ≡ eqb a b
 eqb-suc a b =
-    same_bool (eqb (suc a) (suc b)) (eqb a b) (λ e. let s : suc a ≡ suc b = eqb-true (suc a) (suc b) e in eq-eqb a b (omega (arith, s))) (λ e. let s : a ≡ b = eqb-true a b e in eq-eqb (suc a) (suc b) (omega (arith, s)))
+    both_ways (eqb (suc a) (suc b)) (eqb a b) (λ e. let s : suc a ≡ suc b = eqb-true (suc a) (suc b) e in eq-eqb a b (omega (arith, s))) (λ e. let s : a ≡ b = eqb-true a b e in eq-eqb (suc a) (suc b) (omega (arith, s)))
 
 same-suc : (cs ds : List ℕ) → same (map suc cs) (map suc ds) ≡ same cs ds
 same-suc [] [] = refl
@@ -178,7 +173,7 @@ any-zero cs (t ∷ ts) h = ap (λ (b : Bool). b || list_any (same cs) (map (map 
 
 below_le : (size c : ℕ) → is_inside size (suc c) ≡ nat_lt c size
 below_le size c =
-    same_bool (is_inside size (suc c)) (nat_lt c size) (λ e. let w = inside size (suc c) e in lt-ltb c size (omega (arith, w.1)))
+    both_ways (is_inside size (suc c)) (nat_lt c size) (λ e. let w = inside size (suc c) e in lt-ltb c size (omega (arith, w.1)))
     (λ e. let l : c < size = ltb-true c size e in and_from (nat_lt 0 (suc c)) (nat_le (suc c) size) (lt-ltb 0 (suc c) (omega arith)) (le-leb (suc c) size (omega (arith, l))))
 
 inside-true : (size c : ℕ) → c < size → is_inside size (suc c) ≡ true

@@ -2,32 +2,20 @@
 use Rattle.std.proofs.Common.{◌≡◌, ℕ, zero, suc, ◌+◌, ◌-◌, ◌<◌, ◌≤◌, List, [], ◌∷◌, ◌++◌, Bool, true, false, cond, ◌==◌, ◌&&◌, map, filter, length, set, get_or, refl, ap, sym, ◌∙◌, subst, arith}
 use Rattle.std.specs.List.{range_with_len, flat_map, list_all, list_any}
 use Rattle.std.proofs.lemmas.Bool.{true≢false}
-use Rattle.std.proofs.lemmas.List.{map-id, map-append, length-append, get_or-set_other}
-use Rattle.std.proofs.lemmas.List.FromFn.{map-range_with_len_more, get_or-map-range_with_len}
+use Rattle.std.proofs.lemmas.List.{append-nil, append_assoc, map-append, length-append, get_or-set_other}
+use Rattle.std.proofs.lemmas.List.FromFn.{get_or-map-range_with_len}
 use Rattle.std.proofs.lemmas.List.Concat.{flat_map-append}
-use Rattle.std.proofs.lemmas.List.Elements.{filter-append}
 use Rattle.std.proofs.lemmas.List.Kept.{IsStrictlyIncreasing-filter}
 use Rattle.face_poset.specs.Words.{upto}
 use Rattle.face_poset.specs.Poset.{IsCell, count}
 use Rattle.number_lists.specs.Cofaces.{cells_with, coface_lists}
 use Rattle.number_lists.proofs.CallerLemmas.{increasing-upto, at-In, In-inside, upto-In}
 use Rattle.number_lists.specs.Members.{In}
-use Rattle.permutahedral_arrays.specs.Places.{holds, facets_of}
-
-append_none : {A : Type 0} (xs : List A) → xs ++ [] ≡ xs
-append_none [] = refl
-append_none (x ∷ xs) = ap (λ ys. x ∷ ys) (append_none xs)
-
-join : {A : Type 0} (xs ys zs : List A) → (xs ++ ys) ++ zs ≡ xs ++ (ys ++ zs)
-join [] ys zs = refl
-join (x ∷ xs) ys zs = ap (λ ws. x ∷ ws) (join xs ys zs)
-
--- a range with its next number
-pub range-next : (a n k : ℕ) → a + n ≡ k → range_with_len a (n + 1) ≡ range_with_len a n ++ k ∷ []
-range-next a n k e = sym (map-id (range_with_len a (n + 1))) ∙ (map-range_with_len_more (λ (x : ℕ). x) a n k e ∙ ap (λ (xs : List ℕ). xs ++ k ∷ []) (map-id (range_with_len a n)))
+use Rattle.permutahedral_arrays.specs.Places.{holds_all, facets_of}
+use Rattle.tuple_spaces.proofs.CallerLemmas.{filter-next, range-next}
 
 pub flat_next : {A : Type 0} (f : ℕ → List A) (n : ℕ) → flat_map f (range_with_len 1 (n + 1)) ≡ flat_map f (range_with_len 1 n) ++ f (n + 1)
-flat_next f n = ap (flat_map f) (range-next 1 n (n + 1) (omega arith)) ∙ (flat_map-append f (range_with_len 1 n) ((n + 1) ∷ []) ∙ ap (λ ys. flat_map f (range_with_len 1 n) ++ ys) (append_none (f (n + 1))))
+flat_next f n = ap (flat_map f) (range-next 1 n (n + 1) (omega arith)) ∙ (flat_map-append f (range_with_len 1 n) ((n + 1) ∷ []) ∙ ap (λ ys. flat_map f (range_with_len 1 n) ++ ys) (append-nil (f (n + 1))))
 
 pub flat_grows : {A : Type 0} (f : ℕ → List A) (n k : ℕ) → length (flat_map f (range_with_len 1 n)) ≤ length (flat_map f (range_with_len 1 (n + k)))
 flat_grows f n zero = let e : n ≡ n + zero = omega arith in subst (λ (m : ℕ). length (flat_map f (range_with_len 1 n)) ≤ length (flat_map f (range_with_len 1 m))) e (omega arith)
@@ -42,21 +30,18 @@ flat_below f n most found l e =
     subst (λ (m : ℕ). length found ≤ length (flat_map f (range_with_len 1 m))) r
     (omega (arith, ap length (e ∙ sym (flat_next f n)), flat_grows f (n + 1) (most - (n + 1))))
 
-pub filter_next : (p : ℕ → Bool) (a n k : ℕ) → a + n ≡ k → filter p (range_with_len a (n + 1)) ≡ filter p (range_with_len a n) ++ cond (p k) (k ∷ []) []
-filter_next p a n k e = ap (filter p) (range-next a n k e) ∙ filter-append p (range_with_len a n) (k ∷ [])
-
 pub filter_with : (p : ℕ → Bool) (a n k : ℕ) → a + n ≡ k → p k ≡ true → filter p (range_with_len a (n + 1)) ≡ filter p (range_with_len a n) ++ k ∷ []
-filter_with p a n k e t = filter_next p a n k e ∙ ap (λ (b : Bool). filter p (range_with_len a n) ++ cond b (k ∷ []) []) t
+filter_with p a n k e t = filter-next p a n k e ∙ ap (λ (b : Bool). filter p (range_with_len a n) ++ cond b (k ∷ []) []) t
 
 pub filter_without : (p : ℕ → Bool) (a n k : ℕ) → a + n ≡ k → p k ≡ false → filter p (range_with_len a (n + 1)) ≡ filter p (range_with_len a n)
-filter_without p a n k e t = filter_next p a n k e ∙ (ap (λ (b : Bool). filter p (range_with_len a n) ++ cond b (k ∷ []) []) t ∙ append_none (filter p (range_with_len a n)))
+filter_without p a n k e t = filter-next p a n k e ∙ (ap (λ (b : Bool). filter p (range_with_len a n) ++ cond b (k ∷ []) []) t ∙ append-nil (filter p (range_with_len a n)))
 
 -- what is made of each number that passes, after what stood
 pub made_with : {A : Type 0} (g : ℕ → A) (p : ℕ → Bool) (before old new : List A) (n : ℕ) → old ≡ before ++ map g (filter p (range_with_len 0 n)) → new ≡ old ++ g n ∷ [] → p n ≡ true
     → new ≡ before ++ map g (filter p (range_with_len 0 (n + 1)))
 made_with g p before old new n e h t =
     h ∙ (ap (λ xs. xs ++ g n ∷ []) e
-    ∙ (join before (map g (filter p (range_with_len 0 n))) (g n ∷ [])
+    ∙ (append_assoc before (map g (filter p (range_with_len 0 n))) (g n ∷ [])
     ∙ ap (λ xs. before ++ xs) (sym (ap (map g) (filter_with p 0 n n (omega arith) t) ∙ map-append g (filter p (range_with_len 0 n)) (n ∷ [])))))
 
 pub made_without : {A : Type 0} (g : ℕ → A) (p : ℕ → Bool) (before old new : List A) (n : ℕ) → old ≡ before ++ map g (filter p (range_with_len 0 n)) → new ≡ old → p n ≡ false
@@ -66,7 +51,7 @@ made_without g p before old new n e h t = h ∙ (e ∙ ap (λ xs. before ++ map 
 -- the facets of a cell are facets for the builder, where there are some
 pub facets-cell : (above : List (List ℕ)) (cell : List ℕ) (facets : List ℕ) → facets ≡ facets_of above cell → 1 ≤ length facets → IsCell (length above) facets
 facets-cell above cell facets e some =
-    let p : ℕ → Bool = λ n. holds (get_or above (n - 1) []) cell in
+    let p : ℕ → Bool = λ n. holds_all (get_or above (n - 1) []) cell in
     let is : IsCell (length above) (facets_of above cell) = record {
       rises = IsStrictlyIncreasing-filter p (upto (length above)) (increasing-upto (length above));
       within = λ k d l. upto-In (length above) (get_or (facets_of above cell) k d) (In-inside p (upto (length above)) (at-In (facets_of above cell) k d l));
@@ -98,7 +83,7 @@ filter_twice p q h [] = refl
 filter_twice p q h (x ∷ xs) = twice_at p q x xs (p x) (q x) (h x) (filter_twice p q h xs) refl refl
 
 -- a cell that holds all points holds the first
-first_held : (above cell : List ℕ) → 1 ≤ length cell → holds above cell ≡ true → list_any (λ q. q == get_or cell 0 0) above ≡ true
+first_held : (above cell : List ℕ) → 1 ≤ length cell → holds_all above cell ≡ true → list_any (λ q. q == get_or cell 0 0) above ≡ true
 first_held above [] l e = absurd (omega (arith, l))
 first_held above (p ∷ ps) l e = go (list_any (λ q. q == p) above) (list_all (λ r. list_any (λ q. q == r) above) ps) refl e
   where
@@ -108,10 +93,10 @@ first_held above (p ∷ ps) l e = go (list_any (λ q. q == p) above) (list_all (
 
 -- the facets of a cell are among the cells that hold its first point
 pub facets_among : (above : List (List ℕ)) (cell listed : List ℕ) (most : ℕ) → 1 ≤ length cell → 1 ≤ get_or cell 0 0 → get_or cell 0 0 ≤ most
-    → listed ≡ get_or (coface_lists most above) (get_or cell 0 0 - 1) [] → filter (λ n. holds (get_or above (n - 1) []) cell) listed ≡ facets_of above cell
+    → listed ≡ get_or (coface_lists most above) (get_or cell 0 0 - 1) [] → filter (λ n. holds_all (get_or above (n - 1) []) cell) listed ≡ facets_of above cell
 facets_among above cell listed most some low high e =
     let v : ℕ = get_or cell 0 0 in
-    let p : ℕ → Bool = λ n. holds (get_or above (n - 1) []) cell in
+    let p : ℕ → Bool = λ n. holds_all (get_or above (n - 1) []) cell in
     ap (filter p) (e ∙ get_or-map-range_with_len (cells_with above) 1 most (v - 1) v [] (omega (arith, low, high)) (omega (arith, low)))
     ∙ filter_twice p (λ n. list_any (λ q. q == v) (get_or above (n - 1) [])) (λ n h. first_held (get_or above (n - 1) []) cell some h) (upto (length above))
 

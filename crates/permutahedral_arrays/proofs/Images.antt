@@ -2,13 +2,14 @@
 use Rattle.std.proofs.Common.{◌≡◌, ℕ, zero, suc, ◌-◌, List, [], ◌∷◌, Bool, true, false, cond, ◌&&◌, ◌||◌, eqb, map, filter, length, get_or, refl, ap, sym, ◌∙◌}
 use Rattle.std.specs.List.{list_any, list_all}
 use Rattle.std.proofs.lemmas.List.{length-map}
-use Rattle.number_lists.proofs.CallerLemmas.{and-left, and-right}
+use Rattle.number_lists.proofs.CallerLemmas.{and-left, and-right, filter_same}
 use Rattle.std.proofs.lemmas.Bool.{and_from}
 use Rattle.face_poset.specs.Words.{upto}
 use Rattle.tuple_spaces.specs.Tuples.{same}
 use Rattle.permutahedral_arrays.specs.Places as places
 use Rattle.permutahedral_arrays.specs.Permutahedra.{moved, vectors, still, chains, sequences, is_among, facets_of}
-use Rattle.permutahedral_arrays.proofs.Loops.{map_same, map_twice}
+use Rattle.tuple_spaces.proofs.CallerLemmas.{map_same}
+use Rattle.std.proofs.lemmas.Simd.{map-map}
 
 -- ---- the sequences at a point
 
@@ -18,9 +19,9 @@ pub sequences-are : (d k : ℕ) (first : List ℕ) (vector : ℕ → List ℕ) (
 sequences-are d k first vector shapes e f =
     let cs : List (List (List ℕ)) = chains k (vectors d) (still d) in
     ap (λ (q : List ℕ). map (λ chain. q ∷ map (moved first) chain) cs) (sym f)
-    ∙ (sym (map_twice (map (moved first)) (λ chain. still d ∷ chain) cs)
+    ∙ (sym (map-map (map (moved first)) (λ chain. still d ∷ chain) cs)
     ∙ (ap (map (map (moved first))) e
-    ∙ (map_twice (map (moved first)) (map vector) shapes ∙ map_same (λ shape. map (moved first) (map vector shape)) (map (λ v. moved first (vector v))) shapes (λ shape. map_twice (moved first) vector shape))))
+    ∙ (map-map (map (moved first)) (map vector) shapes ∙ map_same (λ shape. map (moved first) (map vector shape)) (map (λ v. moved first (vector v))) shapes (λ shape i. map-map (moved first) vector shape))))
 
 -- ---- the cells at a point
 
@@ -82,27 +83,23 @@ at-map f [] i d = refl
 at-map f (x ∷ xs) zero d = refl
 at-map f (x ∷ xs) (suc i) d = at-map f xs i d
 
-filter_same : {A : Type 0} (p q : A → Bool) (xs : List A) → ((x : A) → p x ≡ q x) → filter p xs ≡ filter q xs
-filter_same p q [] h = refl
-filter_same p q (x ∷ xs) h = ap (λ b. cond b (x ∷ filter p xs) (filter p xs)) (h x) ∙ ap (λ ys. cond (q x) (x ∷ ys) ys) (filter_same p q xs h)
-
 module _ (place : List ℕ → ℕ) (ok : List ℕ → Bool) (once : (t u : List ℕ) → ok t ≡ true → ok u ≡ true → eqb (place u) (place t) ≡ same t u) where
   among : (t : List ℕ) (points : List (List ℕ)) → ok t ≡ true → list_all ok points ≡ true → list_any (λ q. eqb q (place t)) (map place points) ≡ is_among points t
   among t [] e h = refl
   among t (u ∷ us) e h =
       ap (λ b. b || list_any (λ q. eqb q (place t)) (map place us)) (once t u e (and-left (ok u) (list_all ok us) h)) ∙ ap (λ b. same t u || b) (among t us e (and-right (ok u) (list_all ok us) h))
 
-  all_among : (points cell : List (List ℕ)) → list_all ok points ≡ true → list_all ok cell ≡ true → places.holds (map place points) (map place cell) ≡ list_all (is_among points) cell
+  all_among : (points cell : List (List ℕ)) → list_all ok points ≡ true → list_all ok cell ≡ true → places.holds_all (map place points) (map place cell) ≡ list_all (is_among points) cell
   all_among points [] h k = refl
   all_among points (t ∷ ts) h k =
-      ap (λ b. b && places.holds (map place points) (map place ts)) (among t points (and-left (ok t) (list_all ok ts) k) h) ∙ ap (λ b. is_among points t && b) (all_among points ts h (and-right (ok t) (list_all ok ts) k))
+      ap (λ b. b && places.holds_all (map place points) (map place ts)) (among t points (and-left (ok t) (list_all ok ts) k) h) ∙ ap (λ b. is_among points t && b) (all_among points ts h (and-right (ok t) (list_all ok ts) k))
 
   -- a cell has the same facets by the places of its points
   pub facets-same : (above : List (List (List ℕ))) (cell : List (List ℕ)) → list_all (list_all ok) above ≡ true → list_all ok cell ≡ true → places.facets_of (map (map place) above) (map place cell) ≡ facets_of above cell
   facets-same above cell h k =
-      ap (λ n. filter (λ n. places.holds (get_or (map (map place) above) (n - 1) []) (map place cell)) (upto n)) (length-map above (map place))
-      ∙ filter_same (λ n. places.holds (get_or (map (map place) above) (n - 1) []) (map place cell)) (λ n. list_all (is_among (get_or above (n - 1) [])) cell) (upto (length above))
-      (λ n. ap (λ points. places.holds points (map place cell)) (at-map (map place) above (n - 1) []) ∙ all_among (get_or above (n - 1) []) cell (all-at (list_all ok) above (n - 1) [] refl h) k)
+      ap (λ n. filter (λ n. places.holds_all (get_or (map (map place) above) (n - 1) []) (map place cell)) (upto n)) (length-map above (map place))
+      ∙ filter_same (λ n. places.holds_all (get_or (map (map place) above) (n - 1) []) (map place cell)) (λ n. list_all (is_among (get_or above (n - 1) [])) cell) (upto (length above))
+      (λ i d l. let n : ℕ = get_or (upto (length above)) i d in ap (λ points. places.holds_all points (map place cell)) (at-map (map place) above (n - 1) []) ∙ all_among (get_or above (n - 1) []) cell (all-at (list_all ok) above (n - 1) [] refl h) k)
 
   pub layer-same : (above cells : List (List (List ℕ))) → list_all (list_all ok) above ≡ true → list_all (list_all ok) cells ≡ true → places.layer_of (map (map place) above) (map (map place) cells) ≡ map (facets_of above) cells
   layer-same above [] h k = refl

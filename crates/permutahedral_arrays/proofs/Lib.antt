@@ -1,11 +1,11 @@
-pub mod Climbing
-pub mod Examples
-pub mod Growing
-pub mod Listed
-pub mod Loops
-pub mod Marked
-pub mod OneMarked
-pub mod Found
-pub mod Images
-pub mod Boxed
-pub mod Equal
+mod Climbing
+mod Examples
+mod Growing
+mod Listed
+mod Loops
+mod Marked
+mod OneMarked
+mod Found
+mod Images
+mod Boxed
+mod Equal

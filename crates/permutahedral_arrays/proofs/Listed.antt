@@ -9,9 +9,8 @@ use Rattle.std.proofs.lemmas.List.Sums.{AllPass-from_list_all}
 use Rattle.face_poset.specs.Words.{upto}
 use Rattle.face_poset.specs.Poset.{IsCell}
 use Rattle.number_lists.specs.Members.{In, here, there}
-use Rattle.number_lists.proofs.CallerLemmas.{In-at, In-filter, In-all, all-In, any-In, any-some, holds-In, In-holds, upto-In, In-upto}
-use Rattle.tuple_spaces.proofs.TorusNumbers.{In-map, map-In}
-use Rattle.permutahedral_arrays.specs.Places.{step, cell_at, is_present, cells_at, cells_of, holds, facets_of}
+use Rattle.number_lists.proofs.CallerLemmas.{In-at, In-filter, In-all, all-In, any-In, any-some, holds-In, In-holds, upto-In, In-upto, In-map, map-In}
+use Rattle.permutahedral_arrays.specs.Places.{step, cell_at, is_present, cells_at, cells_of, holds_all, facets_of}
 use Rattle.permutahedral_arrays.proofs.Climbing.{climbs, climb, are_refined}
 
 -- ---- all cells
@@ -82,22 +81,22 @@ some-cell slab row marks shapes starts one =
 
 -- ---- facets
 
-holds-map : (g : ℕ → ℕ) (t s : List ℕ) → holds t s ≡ true → holds (map g t) (map g s) ≡ true
+holds-map : (g : ℕ → ℕ) (t s : List ℕ) → holds_all t s ≡ true → holds_all (map g t) (map g s) ≡ true
 holds-map g t s h =
     In-all (λ p. list_any (λ q. q == p) (map g t)) (map g s)
     (λ y i. let k = map-In g s i in subst (λ (z : ℕ). list_any (λ q. q == z) (map g t) ≡ true) (sym k.2) (In-holds (In-map g (holds-In t (all-In (λ p. list_any (λ q. q == p) t) h k.1)))))
 
-holds-any : (p : ℕ → Bool) (t s : List ℕ) → holds t s ≡ true → list_any p s ≡ true → list_any p t ≡ true
+holds-any : (p : ℕ → Bool) (t s : List ℕ) → holds_all t s ≡ true → list_any p s ≡ true → list_any p t ≡ true
 holds-any p t s h e = let m = any-some p s e in any-In p (holds-In t (all-In (λ x. list_any (λ q. q == x) t) h m.1)) m.2
 
-some_facet : (above : List (List ℕ)) (cell : List ℕ) → list_any (λ c. holds c cell) above ≡ true → 1 ≤ length (facets_of above cell)
+some_facet : (above : List (List ℕ)) (cell : List ℕ) → list_any (λ c. holds_all c cell) above ≡ true → 1 ≤ length (facets_of above cell)
 some_facet above cell h =
-    let at = Any-from_list_any (λ (c : List ℕ). holds c cell) above h in
-    let p : ℕ → Bool = λ n. holds (get_or above (n - 1) []) cell in
+    let at = Any-from_list_any (λ (c : List ℕ). holds_all c cell) above h in
+    let p : ℕ → Bool = λ n. holds_all (get_or above (n - 1) []) cell in
     let back : at.0 + 1 - 1 ≡ at.0 = omega arith in
     let e : get_or above (at.0 + 1 - 1) [] ≡ at.1 = ap (λ (n : ℕ). get_or above n []) back ∙ (get_or_default above at.0 [] at.1 at.2 ∙ at.3) in
     let i : In (at.0 + 1) (upto (length above)) = In-upto (length above) (at.0 + 1) (omega arith) (omega (arith, at.2)) in
-    let k = In-at (In-filter p i (ap (λ (c : List ℕ). holds c cell) e ∙ at.4)) in
+    let k = In-at (In-filter p i (ap (λ (c : List ℕ). holds_all c cell) e ∙ at.4)) in
     omega (arith, k.1)
 
 -- each cell of the shapes has a facet among the cells of those above, in which each of the shapes lies
@@ -108,6 +107,6 @@ cells-bounded slab row marks above shapes h =
     let s : List ℕ = get_or shapes k d in
     let g : ℕ → ℕ = λ v. first + step slab row v in
     some_facet (cells_of slab row marks above) (cell_at slab row first s)
-    (any_flat (λ c. holds c (cell_at slab row first s)) (cells_at slab row marks above) (In-upto (length marks) first low high)
-    (any_kept (list_any (is_present marks)) (λ t. holds t s) (λ c. holds c (cell_at slab row first s)) (cell_at slab row first) above (AllPass-from_list_all (λ (t : List ℕ). list_any (λ u. holds u t) above) shapes h k d l)
+    (any_flat (λ c. holds_all c (cell_at slab row first s)) (cells_at slab row marks above) (In-upto (length marks) first low high)
+    (any_kept (list_any (is_present marks)) (λ t. holds_all t s) (λ c. holds_all c (cell_at slab row first s)) (cell_at slab row first) above (AllPass-from_list_all (λ (t : List ℕ). list_any (λ u. holds_all u t) above) shapes h k d l)
     (λ t q. holds-any (is_present marks) (map g t) (map g s) (holds-map g t s q) present) (λ t q. holds-map g t s q))))

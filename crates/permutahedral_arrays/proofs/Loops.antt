@@ -1,40 +1,12 @@
 -- Lists that are made by loops over numbers, one inside another.
 use Rattle.std.proofs.Common.{◌≡◌, ℕ, zero, suc, ◌+◌, ◌*◌, ◌<◌, ◌≤◌, List, [], ◌∷◌, ◌++◌, Bool, true, false, cond, map, filter, refl, ap, sym, ◌∙◌, arith}
 use Rattle.std.specs.List.{range_with_len, flat_map, list_all}
-use Rattle.std.proofs.lemmas.List.{append-nil, map-append}
+use Rattle.std.proofs.lemmas.List.{append-nil}
 use Rattle.std.proofs.lemmas.List.Concat.{flat_map-append}
-use Rattle.std.proofs.lemmas.List.Elements.{filter-append}
-use Rattle.number_lists.proofs.CallerLemmas.{and-left, and-right}
+use Rattle.std.proofs.lemmas.List.Folds.{flat_map-map}
+use Rattle.number_lists.proofs.CallerLemmas.{and-left, and-right, flat_map_agree, flat_map-flat_map}
 use Rattle.std.proofs.lemmas.Bool.{and_from}
-use Rattle.permutahedral_arrays.specs.Permutahedra.{boxed}
-
-pub map_same : {A B : Type 0} (f g : A → B) (xs : List A) → ((x : A) → f x ≡ g x) → map f xs ≡ map g xs
-map_same f g [] h = refl
-map_same f g (x ∷ xs) h = ap (λ y. y ∷ map f xs) (h x) ∙ ap (λ ys. g x ∷ ys) (map_same f g xs h)
-
-pub map_twice : {A B C : Type 0} (g : B → C) (f : A → B) (xs : List A) → map g (map f xs) ≡ map (λ x. g (f x)) xs
-map_twice g f [] = refl
-map_twice g f (x ∷ xs) = ap (λ ys. g (f x) ∷ ys) (map_twice g f xs)
-
-pub flat_map_same : {A B : Type 0} (f g : A → List B) (xs : List A) → ((x : A) → f x ≡ g x) → flat_map f xs ≡ flat_map g xs
-flat_map_same f g [] h = refl
-flat_map_same f g (x ∷ xs) h = ap (λ ys. ys ++ flat_map f xs) (h x) ∙ ap (λ ys. g x ++ ys) (flat_map_same f g xs h)
-
-pub flat_map-map : {A B C : Type 0} (g : B → List C) (f : A → B) (xs : List A) → flat_map g (map f xs) ≡ flat_map (λ x. g (f x)) xs
-flat_map-map g f [] = refl
-flat_map-map g f (x ∷ xs) = ap (λ ys. g (f x) ++ ys) (flat_map-map g f xs)
-
-pub flat_map-flat_map : {A B C : Type 0} (g : B → List C) (f : A → List B) (xs : List A) → flat_map g (flat_map f xs) ≡ flat_map (λ x. flat_map g (f x)) xs
-flat_map-flat_map g f [] = refl
-flat_map-flat_map g f (x ∷ xs) = flat_map-append g (f x) (flat_map f xs) ∙ ap (λ ys. flat_map g (f x) ++ ys) (flat_map-flat_map g f xs)
-
-pub map-flat_map : {A B C : Type 0} (g : B → C) (f : A → List B) (xs : List A) → map g (flat_map f xs) ≡ flat_map (λ x. map g (f x)) xs
-map-flat_map g f [] = refl
-map-flat_map g f (x ∷ xs) = map-append g (f x) (flat_map f xs) ∙ ap (λ ys. map g (f x) ++ ys) (map-flat_map g f xs)
-
-pub filter-flat_map : {A B : Type 0} (p : B → Bool) (f : A → List B) (xs : List A) → filter p (flat_map f xs) ≡ flat_map (λ x. filter p (f x)) xs
-filter-flat_map p f [] = refl
-filter-flat_map p f (x ∷ xs) = filter-append p (f x) (flat_map f xs) ∙ ap (λ ys. filter p (f x) ++ ys) (filter-flat_map p f xs)
+use Rattle.tuple_spaces.specs.Tuples.{boxed}
 
 pub none_of : {A B : Type 0} (f : A → List B) (xs : List A) → ((x : A) → f x ≡ []) → flat_map f xs ≡ []
 none_of f [] h = refl
@@ -100,10 +72,10 @@ three F a b c = flat_map (λ x. flat_map (λ y. flat_map (F x y) (range_with_len
 pub as_three : {A : Type 0} (f : ℕ → List A) (a b c : ℕ) → flat_map f (range_with_len 1 (a * (b * c))) ≡ three (λ x y z. f (1 + x * (b * c) + y * c + z)) a b c
 as_three f a b c =
     blocks f 1 a (b * c)
-    ∙ flat_map_same (λ x. flat_map f (range_with_len (1 + x * (b * c)) (b * c))) (λ x. flat_map (λ y. flat_map (λ z. f (1 + x * (b * c) + y * c + z)) (range_with_len 0 c)) (range_with_len 0 b)) (range_with_len 0 a)
+    ∙ flat_map_agree (λ x. flat_map f (range_with_len (1 + x * (b * c)) (b * c))) (λ x. flat_map (λ y. flat_map (λ z. f (1 + x * (b * c) + y * c + z)) (range_with_len 0 c)) (range_with_len 0 b)) (range_with_len 0 a)
     (λ x.
     blocks f (1 + x * (b * c)) b c
-    ∙ flat_map_same (λ y. flat_map f (range_with_len (1 + x * (b * c) + y * c) c)) (λ y. flat_map (λ z. f (1 + x * (b * c) + y * c + z)) (range_with_len 0 c)) (range_with_len 0 b)
+    ∙ flat_map_agree (λ y. flat_map f (range_with_len (1 + x * (b * c) + y * c) c)) (λ y. flat_map (λ z. f (1 + x * (b * c) + y * c + z)) (range_with_len 0 c)) (range_with_len 0 b)
     (λ y. shift f (1 + x * (b * c) + y * c) c))
 
 pub same_three : {A : Type 0} (F G : ℕ → ℕ → ℕ → List A) (a b c : ℕ) → ((x y z : ℕ) → x < a → y < b → z < c → F x y z ≡ G x y z) → three F a b c ≡ three G a b c
@@ -123,7 +95,7 @@ less_rows F b c d e p q h k =
 pub less_three : {A : Type 0} (F : ℕ → ℕ → ℕ → List A) (a b c s d e : ℕ) → s ≡ a + 1 → d ≡ b + 1 → e ≡ c + 1
     → ((x y : ℕ) → y < d → F x y c ≡ []) → ((x z : ℕ) → z < c → F x b z ≡ []) → ((y z : ℕ) → y < b → z < c → F a y z ≡ []) → three F s d e ≡ three F a b c
 less_three F a b c s d e o p q h k m =
-    flat_map_same (λ x. flat_map (λ y. flat_map (F x y) (range_with_len 0 e)) (range_with_len 0 d)) (λ x. flat_map (λ y. flat_map (F x y) (range_with_len 0 c)) (range_with_len 0 b)) (range_with_len 0 s)
+    flat_map_agree (λ x. flat_map (λ y. flat_map (F x y) (range_with_len 0 e)) (range_with_len 0 d)) (λ x. flat_map (λ y. flat_map (F x y) (range_with_len 0 c)) (range_with_len 0 b)) (range_with_len 0 s)
     (λ x. less_rows (F x) b c d e p q (h x) (k x))
     ∙ loop-drop (λ x. flat_map (λ y. flat_map (F x y) (range_with_len 0 c)) (range_with_len 0 b)) a s o
     (none_loop (λ y. flat_map (F a y) (range_with_len 0 c)) 0 b (λ y _ l. none_loop (F a y) 0 c (λ z _ n. m y z (omega (arith, l)) (omega (arith, n)))))
@@ -133,20 +105,20 @@ less_three F a b c s d e o p q h k m =
 pub boxed-loop : {A : Type 0} (g : List ℕ → List A) (limit : ℕ) (limits : List ℕ) → flat_map g (boxed (limit ∷ limits)) ≡ flat_map (λ c. flat_map (λ t. g (c ∷ t)) (boxed limits)) (range_with_len 0 limit)
 boxed-loop g limit limits =
     flat_map-flat_map g (λ c. map (λ t. c ∷ t) (boxed limits)) (range_with_len 0 limit)
-    ∙ flat_map_same (λ c. flat_map g (map (λ t. c ∷ t) (boxed limits))) (λ c. flat_map (λ t. g (c ∷ t)) (boxed limits)) (range_with_len 0 limit) (λ c. flat_map-map g (λ t. c ∷ t) (boxed limits))
+    ∙ flat_map_agree (λ c. flat_map g (map (λ t. c ∷ t) (boxed limits))) (λ c. flat_map (λ t. g (c ∷ t)) (boxed limits)) (range_with_len 0 limit) (λ c. flat_map-map g (λ t. c ∷ t) (boxed limits))
 
 boxed_one : {A : Type 0} (g : List ℕ → List A) (a : ℕ) → flat_map g (boxed (a ∷ [])) ≡ flat_map (λ x. g (x ∷ [])) (range_with_len 0 a)
-boxed_one g a = boxed-loop g a [] ∙ flat_map_same (λ c. flat_map (λ t. g (c ∷ t)) (boxed [])) (λ c. g (c ∷ [])) (range_with_len 0 a) (λ c. append-nil (g (c ∷ [])))
+boxed_one g a = boxed-loop g a [] ∙ flat_map_agree (λ c. flat_map (λ t. g (c ∷ t)) (boxed [])) (λ c. g (c ∷ [])) (range_with_len 0 a) (λ c. append-nil (g (c ∷ [])))
 
 pub boxed_two : {A : Type 0} (g : List ℕ → List A) (a b : ℕ) → flat_map g (boxed (a ∷ b ∷ [])) ≡ flat_map (λ x. flat_map (λ y. g (x ∷ y ∷ [])) (range_with_len 0 b)) (range_with_len 0 a)
 boxed_two g a b =
     boxed-loop g a (b ∷ [])
-    ∙ flat_map_same (λ x. flat_map (λ t. g (x ∷ t)) (boxed (b ∷ []))) (λ x. flat_map (λ y. g (x ∷ y ∷ [])) (range_with_len 0 b)) (range_with_len 0 a) (λ x. boxed_one (λ t. g (x ∷ t)) b)
+    ∙ flat_map_agree (λ x. flat_map (λ t. g (x ∷ t)) (boxed (b ∷ []))) (λ x. flat_map (λ y. g (x ∷ y ∷ [])) (range_with_len 0 b)) (range_with_len 0 a) (λ x. boxed_one (λ t. g (x ∷ t)) b)
 
 pub boxed_three : {A : Type 0} (g : List ℕ → List A) (a b c : ℕ) → flat_map g (boxed (a ∷ b ∷ c ∷ [])) ≡ three (λ x y z. g (x ∷ y ∷ z ∷ [])) a b c
 boxed_three g a b c =
     boxed-loop g a (b ∷ c ∷ [])
-    ∙ flat_map_same (λ x. flat_map (λ t. g (x ∷ t)) (boxed (b ∷ c ∷ []))) (λ x. flat_map (λ y. flat_map (λ z. g (x ∷ y ∷ z ∷ [])) (range_with_len 0 c)) (range_with_len 0 b)) (range_with_len 0 a)
+    ∙ flat_map_agree (λ x. flat_map (λ t. g (x ∷ t)) (boxed (b ∷ c ∷ []))) (λ x. flat_map (λ y. flat_map (λ z. g (x ∷ y ∷ z ∷ [])) (range_with_len 0 c)) (range_with_len 0 b)) (range_with_len 0 a)
     (λ x. boxed_two (λ t. g (x ∷ t)) b c)
 
 -- ---- what is true of all

@@ -10,8 +10,8 @@ use crate::shapes::list_shapes;
 use crate::spaces::build;
 use array_values::{ArrayFault, read_bits};
 use face_poset::Space;
-use number_lists::Lists;
 use gap_text::Nest;
+use number_lists::Lists;
 use std::alloc::Global;
 
 /// Reads the permutahedral space of an array of bits of two or three levels, or answers its first

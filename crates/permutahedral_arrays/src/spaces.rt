@@ -4,7 +4,7 @@ ghost use Rattle.std.specs.Prelude.{◌==◌, All};
 ghost use Rattle.number_lists.specs.Cofaces.{coface_lists};
 ghost use Rattle.std.specs.List.{list_any};
 ghost use Rattle.face_poset.specs.Poset.{layer, count, cell_count, IsCell};
-ghost use Rattle.permutahedral_arrays.specs.Places.{holds, facets_of, layer_of, space_of};
+ghost use Rattle.permutahedral_arrays.specs.Places.{holds_all, facets_of, layer_of, space_of};
 
 use face_poset::{BuildFault, Builder, Space};
 use number_lists::{Lists, cofaces_in};
@@ -18,8 +18,8 @@ fn has_point(cell: &[u32], point: u32) -> bool
 }
 
 /// Whether a cell holds all points of another.
-fn holds(above: &[u32], cell: &[u32]) -> bool
-    ensures { result ≡ holds above.now cell.now }
+fn holds_all(above: &[u32], cell: &[u32]) -> bool
+    ensures { result ≡ holds_all above.now cell.now }
 {
     cell.iter().all(|point| has_point(above, *point))
 }
@@ -40,7 +40,7 @@ fn list_facets(
     facets.clear();
     let listed = holders.get(cell[0] as usize - 1);
     for number in listed {
-        if holds(above.get(*number as usize - 1), cell) {
+        if holds_all(above.get(*number as usize - 1), cell) {
             facets.push(*number)?;
         }
     }

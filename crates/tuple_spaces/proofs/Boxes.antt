@@ -1,11 +1,11 @@
 -- Tuples in boxes.
-use Rattle.std.proofs.Common.{◌≡◌, ℕ, ◌<◌, List, [], ◌∷◌, Bool, true, nat_lt, map, get_or, refl, ap, sym, ◌∙◌, subst, arith}
-use Rattle.std.specs.List.{range_with_len, list_all}
+use Rattle.std.proofs.Common.{◌≡◌, ℕ, ◌<◌, List, [], ◌∷◌, true, nat_lt, map, get_or, refl, ap, sym, ◌∙◌, subst, arith}
+use Rattle.std.specs.List.{range_with_len}
 use Rattle.std.proofs.lemmas.Bool.{false≢true, and_from}
 use Rattle.std.proofs.lemmas.Bool.Decides.{nat_tests}
-use Rattle.number_lists.proofs.CallerLemmas.{and-left, and-right}
-use Rattle.tuple_spaces.proofs.Among.{Among, here, there, AreDistinct, none, more, Among-map, map-Among, flat_map-Among, Among-flat_map, distinct-map, distinct-flat_map, Among-range, range-Among, distinct-range}
-use Rattle.tuple_spaces.specs.Voxels.{boxed}
+use Rattle.number_lists.proofs.CallerLemmas.{and-left, and-right, AreDistinct, none, more, In-map, map-In, flat_map-In, In-flat_map, distinct-map, distinct-flat_map, In-range, range-In, distinct-range}
+use Rattle.number_lists.specs.Members.{In, here, there}
+use Rattle.tuple_spaces.specs.Tuples.{boxed}
 use Rattle.tuple_spaces.specs.VoxelLaws.{lies_in}
 
 -- one coordinate for each limit, below it
@@ -13,29 +13,29 @@ pub data Within : List ℕ → List ℕ → Type 0 where
   no_more : Within [] []
   one_more : {limit c : ℕ} {limits cs : List ℕ} → c < limit → Within limits cs → Within (limit ∷ limits) (c ∷ cs)
 
-pub boxed-within : (limits t : List ℕ) → Among t (boxed limits) → Within limits t
+pub boxed-within : (limits t : List ℕ) → In t (boxed limits) → Within limits t
 boxed-within [] t i = by_place i
   where
-    by_place : {u : List ℕ} → Among u ([] ∷ []) → Within [] u
+    by_place : {u : List ℕ} → In u ([] ∷ []) → Within [] u
     by_place here = no_more
     by_place (there j) = elim j [ ]
 boxed-within (limit ∷ limits) t i =
-    let r = flat_map-Among (λ (c : ℕ). map (λ u. c ∷ u) (boxed limits)) (range_with_len 0 limit) i in
-    let s = map-Among (λ u. r.0 ∷ u) (boxed limits) r.2 in
-    subst (Within (limit ∷ limits)) (sym s.2) (one_more (let w = range-Among 0 limit r.0 r.1 in omega (arith, w.1)) (boxed-within limits s.0 s.1))
+    let r = flat_map-In (λ (c : ℕ). map (λ u. c ∷ u) (boxed limits)) (range_with_len 0 limit) i in
+    let s = map-In (λ u. r.0 ∷ u) (boxed limits) r.2 in
+    subst (Within (limit ∷ limits)) (sym s.2) (one_more (let w = range-In 0 limit r.0 r.1 in omega (arith, w.1)) (boxed-within limits s.0 s.1))
 
-pub within-boxed : {limits t : List ℕ} → Within limits t → Among t (boxed limits)
+pub within-boxed : {limits t : List ℕ} → Within limits t → In t (boxed limits)
 within-boxed no_more = here
 within-boxed (one_more {limit} {c} {limits} {cs} l b) =
-    Among-flat_map (λ (d : ℕ). map (λ u. d ∷ u) (boxed limits)) (Among-range 0 limit c (omega arith) (omega arith)) (Among-map (λ u. c ∷ u) (within-boxed b))
+    In-flat_map (λ (d : ℕ). map (λ u. d ∷ u) (boxed limits)) (In-range 0 limit c (omega arith) (omega arith)) (In-map (λ u. c ∷ u) (within-boxed b))
 
 pub distinct-boxed : (limits : List ℕ) → AreDistinct (boxed limits)
 distinct-boxed [] = more (λ i. elim i [ ]) none
 distinct-boxed (limit ∷ limits) =
     distinct-flat_map (λ (c : ℕ). map (λ u. c ∷ u) (boxed limits)) (distinct-range 0 limit) (λ c. distinct-map (λ u. c ∷ u) (λ t u e. tail_same c t u e) (distinct-boxed limits))
     (λ c d t i j.
-    let r = map-Among (λ u. c ∷ u) (boxed limits) i in
-    let s = map-Among (λ u. d ∷ u) (boxed limits) j in
+    let r = map-In (λ u. c ∷ u) (boxed limits) i in
+    let s = map-In (λ u. d ∷ u) (boxed limits) j in
     ap (λ (v : List ℕ). get_or v 0 0) (sym r.2 ∙ s.2))
   where
     tail_same : (c : ℕ) (t u : List ℕ) → c ∷ t ≡ c ∷ u → t ≡ u
@@ -53,12 +53,3 @@ lies-within (size ∷ sizes) (i ∷ index) e =
 pub within-lies : {sizes index : List ℕ} → Within sizes index → lies_in sizes index ≡ true
 within-lies no_more = refl
 within-lies (one_more {limit} {c} {limits} {cs} l h) = and_from (nat_lt c limit) (lies_in limits cs) (search (nat_tests, arith, l)) (within-lies h)
-
--- what is true of all, and of each
-pub all-Among : {A : Type 0} (p : A → Bool) {x : A} {xs : List A} → list_all p xs ≡ true → Among x xs → p x ≡ true
-all-Among p {x} e (here {xs}) = and-left (p x) (list_all p xs) e
-all-Among p e (there {y} {xs} i) = all-Among p (and-right (p y) (list_all p xs) e) i
-
-pub Among-all : {A : Type 0} (p : A → Bool) (xs : List A) → ((x : A) → Among x xs → p x ≡ true) → list_all p xs ≡ true
-Among-all p [] h = refl
-Among-all p (x ∷ xs) h = and_from (p x) (list_all p xs) (h x here) (Among-all p xs (λ y i. h y (there i)))

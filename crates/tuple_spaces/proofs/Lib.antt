@@ -1,16 +1,19 @@
-pub mod Among
-pub mod PassingPlaces
-pub mod Triples
-pub mod TorusFacets
-pub mod TorusNumbers
-pub mod TorusStages
-pub mod TorusCounts
-pub mod TorusRoom
-pub mod TupleSpaces
-pub mod SmallestTorus
-pub mod TorusRegularity
-pub mod Boxes
-pub mod VoxelCubes
-pub mod VoxelShifts
-pub mod VoxelRegularity
-pub mod VoxelExamples
+mod ListLemmas
+mod OddCoordinates
+mod MakingLemmas
+mod PassingPlaces
+mod Triples
+mod TorusFacets
+mod TorusNumbers
+mod TorusStages
+mod TorusCounts
+mod TorusRoom
+mod TupleSpaces
+mod SmallestTorus
+mod TorusRegularity
+mod Boxes
+mod VoxelCubes
+mod VoxelShifts
+mod VoxelRegularity
+mod VoxelExamples
+pub mod CallerLemmas

@@ -6,11 +6,11 @@ use Rattle.std.proofs.lemmas.Bool.{eq-eqb, eqb-true, ne_eqb}
 use Rattle.std.proofs.lemmas.List.{length-append, length-map}
 use Rattle.std.proofs.lemmas.List.Concat.{flat_map-append}
 use Rattle.std.proofs.lemmas.List.Elements.{filter-append}
-use Rattle.number_lists.proofs.CallerLemmas.{same_bool}
+use Rattle.std.specs.Cmp.{both_ways}
 use Rattle.tuple_spaces.specs.Tuples.{tuples, dim_of, is_odd, cells_in, numbers_in}
 use Rattle.tuple_spaces.specs.Torus.{facets_round, torus_of, HasTorusCounts}
-use Rattle.tuple_spaces.proofs.PassingPlaces.{range-more}
-use Rattle.tuple_spaces.proofs.TorusFacets.{dim-cons, even-is}
+use Rattle.tuple_spaces.proofs.ListLemmas.{range-more}
+use Rattle.tuple_spaces.proofs.OddCoordinates.{even-is, even_dim, odd_dim}
 
 -- as many pass as before
 length-filter-map : {A B : Type 0} (p : B → Bool) (q : A → Bool) (f : A → B) (xs : List A) → ((x : A) → p (f x) ≡ q x) → length (filter p (map f xs)) ≡ length (filter q xs)
@@ -51,14 +51,8 @@ module _ (size : ℕ) where
   abbrev many : ℕ → ℕ → ℕ
   many n dim = length (cells_in (tuples n (2 * size)) dim)
 
-  odd_dim : (c : ℕ) (t : List ℕ) → is_odd c ≡ true → dim_of (c ∷ t) ≡ suc (dim_of t)
-  odd_dim c t o = dim-cons c t ∙ (ap (λ (b : Bool). cond b 1 0 + dim_of t) o ∙ omega arith)
-
-  even_dim : (c : ℕ) (t : List ℕ) → is_odd c ≡ false → dim_of (c ∷ t) ≡ dim_of t
-  even_dim c t o = dim-cons c t ∙ (ap (λ (b : Bool). cond b 1 0 + dim_of t) o ∙ omega arith)
-
   suc_test : (a b : ℕ) → eqb (suc a) (suc b) ≡ eqb a b
-  suc_test a b = same_bool (eqb (suc a) (suc b)) (eqb a b) (λ e. eq-eqb a b (let q : suc a ≡ suc b = eqb-true (suc a) (suc b) e in omega arith)) (λ e. eq-eqb (suc a) (suc b) (let q : a ≡ b = eqb-true a b e in omega arith))
+  suc_test a b = both_ways (eqb (suc a) (suc b)) (eqb a b) (λ e. eq-eqb a b (let q : suc a ≡ suc b = eqb-true (suc a) (suc b) e in omega arith)) (λ e. eq-eqb (suc a) (suc b) (let q : a ≡ b = eqb-true a b e in omega arith))
 
   many-suc : (n dim : ℕ) → many (suc n) (suc dim) ≡ size * many n (suc dim) + size * many n dim
   many-suc n dim =

@@ -1,36 +1,19 @@
 -- The places of the facets of a triple.
-use Rattle.std.proofs.Common.{◌≡◌, ◌⊎◌, inl, inr, ℕ, suc, ◌+◌, ◌-◌, ◌*◌, ◌/◌, ◌%◌, ◌<◌, ◌≤◌, List, [], ◌∷◌, ◌++◌, Bool, true, false, cond, filter, map, length, refl, ap, sym, ◌∙◌, subst, arith}
+use Rattle.std.proofs.Common.{◌≡◌, ◌⊎◌, inl, inr, ℕ, suc, ◌+◌, ◌-◌, ◌*◌, ◌/◌, ◌%◌, ◌<◌, ◌≤◌, List, [], ◌∷◌, ◌++◌, Bool, true, false, cond, map, refl, ap, sym, ◌∙◌, subst, arith}
 use Rattle.std.proofs.Math.Nat.{mod-eq_of_lt, mod_self, mul_comm, mul-le-mul_right}
-use Rattle.std.proofs.lemmas.Bool.{eqb-true, cases_lt, ne_eqb}
+use Rattle.std.proofs.lemmas.Bool.{cases_lt}
 use Rattle.std.proofs.lemmas.Nat.{mod_below, div_below}
 use Rattle.std.proofs.lemmas.List.{map-append}
-use Rattle.number_lists.specs.Members.{In, here, there}
+use Rattle.number_lists.specs.Members.{In}
 use Rattle.number_lists.proofs.CallerLemmas.{append-In}
 use Rattle.tuple_spaces.specs.Tuples.{dim_of, is_odd}
 use Rattle.tuple_spaces.specs.Torus.{facets_round}
 use Rattle.tuple_spaces.specs.TorusPlaces.{volume, triple_at, dim_at, moved, pair_places, facet_places}
 use Rattle.tuple_spaces.proofs.Triples.{triple_of, place_is}
+use Rattle.tuple_spaces.proofs.OddCoordinates.{below-even, dim-cons, even-is, odd-is}
+use Rattle.tuple_spaces.proofs.ListLemmas.{two_of}
 
--- ---- odd coordinates
-
-pub dim-cons : (c : ℕ) (cs : List ℕ) → dim_of (c ∷ cs) ≡ cond (is_odd c) 1 0 + dim_of cs
-dim-cons c cs = by_test (is_odd c)
-  where
-    by_test : (b : Bool) → length (cond b (c ∷ filter is_odd cs) (filter is_odd cs)) ≡ cond b 1 0 + length (filter is_odd cs)
-    by_test true = omega arith
-    by_test false = omega arith
-
-pub odd-is : (c : ℕ) → is_odd c ≡ true → c % 2 ≡ 1
-odd-is c e = eqb-true (c % 2) 1 e
-
-pub even-is : (c : ℕ) → c % 2 ≡ 0 → is_odd c ≡ false
-even-is c e = ne_eqb (c % 2) 1 (λ q. omega (arith, e, q))
-
-pub odd-low : (c : ℕ) → is_odd c ≡ true → 1 ≤ c
-odd-low c e = let o : c % 2 ≡ 1 = odd-is c e in omega arith
-
-pub below-even : (c : ℕ) → is_odd c ≡ true → is_odd (c - 1) ≡ false
-below-even c e = let o : c % 2 ≡ 1 = odd-is c e in even-is (c - 1) (omega arith)
+-- ---- one up
 
 -- one up, going round
 pub up-cases : (side c : ℕ) → c < side → ((c + 1 < side) × ((c + 1) % side ≡ c + 1)) ⊎ ((c + 1 ≡ side) × ((c + 1) % side ≡ 0))
@@ -153,12 +136,6 @@ module _ (side place : ℕ) (some : 0 < side) (low : place < volume side) where
   pub dims : (a b c : ℕ) → dim_of (a ∷ b ∷ c ∷ []) ≡ cond (is_odd a) 1 0 + (cond (is_odd b) 1 0 + (cond (is_odd c) 1 0 + 0))
   dims a b c = dim-cons a (b ∷ c ∷ []) ∙ ap (λ (n : ℕ). cond (is_odd a) 1 0 + n) (dim-cons b (c ∷ []) ∙ ap (λ (n : ℕ). cond (is_odd b) 1 0 + n) (dim-cons c []))
 
-  in_pair : (b : Bool) (m n : ℕ) {k : ℕ} → In k (cond b (m ∷ n ∷ []) []) → (b ≡ true) × ((k ≡ m) ⊎ (k ≡ n))
-  in_pair true m n here = (refl, inl refl)
-  in_pair true m n (there here) = (refl, inr refl)
-  in_pair true m n (there (there h)) = elim h [ ]
-  in_pair false m n h = elim h [ ]
-
   module _ (turns : Turns side) where
     -- each of the two is below the side, and even
     both : (c d : ℕ) → c < side → is_odd c ≡ true → (d ≡ c - 1) ⊎ (d ≡ (c + 1) % side) → (d < side) × (is_odd d ≡ false)
@@ -168,7 +145,7 @@ module _ (side place : ℕ) (some : 0 < side) (low : place < volume side) where
     -- a facet in one direction
     moved_there : (stride c : ℕ) {k : ℕ} → c < side → In k (pair_places side stride place c) → (is_odd c ≡ true) × ((d : ℕ) × (d < side) × (is_odd d ≡ false) × (k ≡ moved stride place c d))
     moved_there stride c l i =
-        let r = in_pair (is_odd c) (moved stride place c (c - 1)) (moved stride place c ((c + 1) % side)) i in (
+        let r = two_of (is_odd c) (moved stride place c (c - 1)) (moved stride place c ((c + 1) % side)) i in (
           r.0,
           elim r.1 [
             | inl e ↦ let w = both c (c - 1) l r.0 (inl refl) in (c - 1, w.0, w.1, e)

@@ -1,52 +1,25 @@
 -- The numbers of the facets of a triple.
-use Rattle.std.proofs.Common.{◌≡◌, inl, inr, ℕ, ◌+◌, ◌-◌, ◌<◌, ◌≤◌, List, [], ◌∷◌, Bool, ◌||◌, eqb, map, length, get_or, Contains, refl, ap, sym, ◌∙◌, subst, arith}
+use Rattle.std.proofs.Common.{◌≡◌, ℕ, ◌+◌, ◌-◌, ◌<◌, ◌≤◌, List, [], Bool, eqb, map, length, get_or, Contains, ap, sym, ◌∙◌, subst, arith}
 use Rattle.std.specs.List.{range_with_len, list_any}
 use Rattle.std.specs.List.Sorted.{IsStrictlyIncreasing}
-use Rattle.std.proofs.lemmas.Bool.{eq-eqb, cases_lt}
+use Rattle.std.proofs.lemmas.Bool.{eq-eqb}
 use Rattle.std.proofs.lemmas.List.{get_or-map, length-map}
-use Rattle.std.proofs.lemmas.List.Kept.{IsStrictlyIncreasing-filter, AllPairs-from_increasing}
-use Rattle.std.proofs.lemmas.List.FromFn.{get_or-range_with_len, length-range_with_len, get_or-map-range_with_len}
+use Rattle.std.proofs.lemmas.List.Kept.{IsStrictlyIncreasing-filter}
+use Rattle.std.proofs.lemmas.List.FromFn.{get_or-map-range_with_len}
 use Rattle.face_poset.specs.Words.{upto, holds}
-use Rattle.number_lists.proofs.CallerLemmas.{same_increasing, increasing-upto, Contains-holds, holds-Contains, In-filter, In-inside, filter-In, any-In, any-some, holds-In, In-holds, same_bool, In-upto, upto-In}
-use Rattle.number_lists.specs.Members.{In, here, there}
+use Rattle.number_lists.proofs.CallerLemmas.{same_increasing, increasing-upto, Contains-holds, holds-Contains, In-filter, In-inside, filter-In, any-In, any-some, holds-In, In-holds, In-upto, upto-In, In-map, map-In, increasing-range, list_any-map, increasing-once}
+use Rattle.std.specs.Cmp.{both_ways}
+use Rattle.number_lists.specs.Members.{In}
 use Rattle.tuple_spaces.specs.Tuples.{tuples, same, cells_in}
 use Rattle.tuple_spaces.specs.Torus.{facets_round}
 use Rattle.tuple_spaces.specs.TorusPlaces.{volume, triple_at, dim_at, number_at, facet_places, facets_at}
 use Rattle.tuple_spaces.proofs.PassingPlaces.{passing, passing-at}
-use Rattle.tuple_spaces.proofs.Triples.{cells_are, triple_once, same-eq, eq-same}
+use Rattle.tuple_spaces.proofs.Triples.{cells_are, triple_once}
+use Rattle.tuple_spaces.proofs.OddCoordinates.{same-eq, eq-same}
+use Rattle.tuple_spaces.proofs.ListLemmas.{map_same}
 use Rattle.tuple_spaces.proofs.TorusFacets.{IsNeighbor, Turns, round_is, are_neighbors}
 
 -- ---- lists
-
-pub In-map : (f : ℕ → ℕ) {k : ℕ} {xs : List ℕ} → In k xs → In (f k) (map f xs)
-In-map f here = here
-In-map f (there i) = there (In-map f i)
-
-pub map-In : (f : ℕ → ℕ) {y : ℕ} (xs : List ℕ) → In y (map f xs) → (k : ℕ) × In k xs × (y ≡ f k)
-map-In f [] h = elim h [ ]
-map-In f (x ∷ xs) here = (x, here, refl)
-map-In f (x ∷ xs) (there h) = let r = map-In f xs h in (r.0, there r.1, r.2)
-
-any_map : {A : Type 0} (p : A → Bool) (f : ℕ → A) (xs : List ℕ) → list_any p (map f xs) ≡ list_any (λ k. p (f k)) xs
-any_map p f [] = refl
-any_map p f (x ∷ xs) = ap (λ (b : Bool). p (f x) || b) (any_map p f xs)
-
-increasing-range : (n : ℕ) → IsStrictlyIncreasing (range_with_len 0 n)
-increasing-range n k l =
-    let m : k + 1 < n = omega (arith, l, length-range_with_len 0 n) in
-    omega (arith, get_or-range_with_len 0 n k 0 (omega arith), get_or-range_with_len 0 n (k + 1) 0 m)
-
--- an increasing list has a number at one place only
-place_once : (xs : List ℕ) (i j : ℕ) → IsStrictlyIncreasing xs → i < length xs → j < length xs → get_or xs i 0 ≡ get_or xs j 0 → i ≡ j
-place_once xs i j h l m e =
-    elim (cases_lt i j) [
-      | inl q ↦ absurd (omega (arith, AllPairs-from_increasing xs h i j 0 q m, e))
-      | inr q ↦
-          elim (cases_lt j i) [
-            | inl r ↦ absurd (omega (arith, AllPairs-from_increasing xs h j i 0 r l, e))
-            | inr r ↦ omega (arith, q, r)
-          ]
-    ]
 
 -- ---- the cells of a dimension
 
@@ -81,7 +54,7 @@ module _ (side dim : ℕ) (some : 0 < side) where
       let r = numbered k l e in
       let m : n - 1 < length spots = omega (arith, low, high, length-cells) in
       let same_place : get_or spots (n - 1) 0 ≡ k = triple_once side (get_or spots (n - 1) 0) k (sym (cell-at (n - 1) m) ∙ t) in
-      let i : n - 1 ≡ number_at side k - 1 = place_once spots (n - 1) (number_at side k - 1) (IsStrictlyIncreasing-filter (λ p. eqb (dim_at side p) dim) (range_with_len 0 (volume side)) (increasing-range (volume side))) m (omega (arith, r.0, r.1, length-cells)) (same_place ∙ sym r.2) in
+      let i : n - 1 ≡ number_at side k - 1 = increasing-once spots (n - 1) (number_at side k - 1) (IsStrictlyIncreasing-filter (λ p. eqb (dim_at side p) dim) (range_with_len 0 (volume side)) (increasing-range 0 (volume side))) m (omega (arith, r.0, r.1, length-cells)) (same_place ∙ sym r.2) in
       omega (arith, i, low, r.0)
 
 -- ---- the facets of a triple
@@ -99,7 +72,7 @@ module _ (side place : ℕ) (some : 0 < side) (low : place < volume side) (turns
   -- the test of a number, over places
   has-places : (n : ℕ) → has n ≡ list_any (λ k. same (get_or (cells_in (tuples 3 side) (dim_at side place - 1)) (n - 1) []) (triple_at side k)) (facet_places side place)
   has-places n =
-      ap (list_any (same (get_or below (n - 1) []))) (sym (round_is side place some low)) ∙ any_map (same (get_or below (n - 1) [])) (triple_at side) (facet_places side place)
+      ap (list_any (same (get_or below (n - 1) []))) (sym (round_is side place some low)) ∙ list_any-map (same (get_or below (n - 1) [])) (triple_at side) (facet_places side place)
 
   -- the numbers of the places of the facets
   pub to_facet : (n : ℕ) → In n (map (number_at side) (facet_places side place)) → In n (facets_at side (dim_at side place) place)
@@ -128,19 +101,15 @@ module _ (side place : ℕ) (some : 0 < side) (low : place < volume side) (turns
   pub facets_are : (xs : List ℕ) → IsStrictlyIncreasing xs → ((n : ℕ) → In n xs → In n (map (number_at side) (facet_places side place))) → ((n : ℕ) → In n (map (number_at side) (facet_places side place)) → In n xs) → xs ≡ facets_at side (dim_at side place) place
   facets_are xs r f g =
       same_increasing xs (facets_at side (dim_at side place) place) r rises
-      (λ n. same_bool (holds xs n) (holds (facets_at side (dim_at side place) place) n)
+      (λ n. both_ways (holds xs n) (holds (facets_at side (dim_at side place) place) n)
       (λ e. In-holds (to_facet n (f n (holds-In xs e))))
       (λ e. In-holds (g n (from_facet n (holds-In (facets_at side (dim_at side place) place) e)))))
-
-map_same_In : (f g : ℕ → ℕ) (xs : List ℕ) → ((k : ℕ) → In k xs → f k ≡ g k) → map f xs ≡ map g xs
-map_same_In f g [] h = refl
-map_same_In f g (x ∷ xs) h = ap (λ (y : ℕ). y ∷ map f xs) (h x here) ∙ ap (λ (ys : List ℕ). g x ∷ ys) (map_same_In f g xs (λ k i. h k (there i)))
 
 -- the numbers that stand at the places of the facets
 pub numbers_read : (side place : ℕ) (numbers : List ℕ) → 0 < side → place < volume side → Turns side → numbers ≡ map (number_at side) (range_with_len 0 (volume side))
     → map (λ k. get_or numbers k 0) (facet_places side place) ≡ map (number_at side) (facet_places side place)
 numbers_read side place numbers some low turns e =
-    map_same_In (λ k. get_or numbers k 0) (number_at side) (facet_places side place)
+    map_same (λ k. get_or numbers k 0) (number_at side) (facet_places side place)
     (λ k i. ap (λ (ns : List ℕ). get_or ns k 0) e ∙ get_or-map-range_with_len (number_at side) 0 (volume side) k k 0 (are_neighbors side place some low turns k i).below (omega arith))
 
 -- the sorted list is that of the facets

@@ -1,5 +1,5 @@
 -- The torus is regular: a cell with its faces lies at fixed offsets from the corner of a cube, and is the 3-cube or one of its faces.
-use Rattle.std.proofs.Common.{◌≡◌, ◌≢◌, ◌⊎◌, inl, inr, ℕ, zero, suc, ◌+◌, ◌-◌, ◌*◌, ◌%◌, ◌<◌, ◌≤◌, List, [], ◌∷◌, ◌++◌, Bool, true, false, cond, map, length, drop, get_or, refl, ap, sym, ◌∙◌, subst, arith}
+use Rattle.std.proofs.Common.{◌≡◌, ◌≢◌, inl, inr, ℕ, zero, suc, ◌+◌, ◌-◌, ◌*◌, ◌%◌, ◌<◌, ◌≤◌, List, [], ◌∷◌, ◌++◌, Bool, true, false, cond, map, length, drop, get_or, refl, ap, sym, ◌∙◌, subst, arith}
 use Rattle.std.specs.List.{range_with_len}
 use Rattle.std.proofs.Math.Nat.{mod-eq_of_lt}
 use Rattle.std.proofs.lemmas.Bool.{eq-eqb, false≢true}
@@ -10,9 +10,13 @@ use Rattle.tuple_spaces.specs.Tuples.{tuples, dim_of, is_odd, space_of}
 use Rattle.tuple_spaces.specs.Torus.{facets_round, torus_of}
 use Rattle.tuple_spaces.specs.TorusPlaces.{volume, triple_at}
 use Rattle.tuple_spaces.proofs.PassingPlaces.{volume-le}
-use Rattle.tuple_spaces.proofs.Triples.{triples, map_twice}
-use Rattle.tuple_spaces.proofs.TorusFacets.{Turns, even_turns, dim-cons, odd-low, below-even, up-cases, up-below}
-use Rattle.tuple_spaces.proofs.Among.{Among, here, there, AreDistinct, none, more, append-Among, Among-map, map-Among, flat_map-Among, Among-flat_map, distinct-map, distinct-flat_map, Among-range, range-Among, distinct-range}
+use Rattle.tuple_spaces.proofs.Triples.{triples}
+use Rattle.std.proofs.lemmas.Simd.{map-map}
+use Rattle.tuple_spaces.proofs.TorusFacets.{Turns, even_turns, up-cases, up-below}
+use Rattle.tuple_spaces.proofs.OddCoordinates.{dim-cons, odd-low, below-even, replaced}
+use Rattle.tuple_spaces.proofs.ListLemmas.{two_of}
+use Rattle.number_lists.specs.Members.{In, here, there}
+use Rattle.number_lists.proofs.CallerLemmas.{AreDistinct, none, more, append-In, In-map, map-In, flat_map-In, In-flat_map, distinct-map, distinct-flat_map, In-range, range-In, distinct-range}
 use Rattle.tuple_spaces.proofs.TupleSpaces.{IsTupleSpace, IsMoving, regular_by_copies}
 use Rattle.tuple_spaces.proofs.SmallestTorus.{cube_regular}
 
@@ -23,28 +27,28 @@ data AreBelow (limit : ℕ) : ℕ → List ℕ → Type 0 where
   no_more : AreBelow limit 0 []
   one_more : {n c : ℕ} {cs : List ℕ} → c < limit → AreBelow limit n cs → AreBelow limit (suc n) (c ∷ cs)
 
-tuples-below : (limit n : ℕ) (t : List ℕ) → Among t (tuples n limit) → AreBelow limit n t
+tuples-below : (limit n : ℕ) (t : List ℕ) → In t (tuples n limit) → AreBelow limit n t
 tuples-below limit zero t i = by_place i
   where
-    by_place : {u : List ℕ} → Among u ([] ∷ []) → AreBelow limit 0 u
+    by_place : {u : List ℕ} → In u ([] ∷ []) → AreBelow limit 0 u
     by_place here = no_more
     by_place (there j) = elim j [ ]
 tuples-below limit (suc n) t i =
-    let r = flat_map-Among (λ (c : ℕ). map (λ u. c ∷ u) (tuples n limit)) (range_with_len 0 limit) i in
-    let s = map-Among (λ u. r.0 ∷ u) (tuples n limit) r.2 in
-    subst (AreBelow limit (suc n)) (sym s.2) (one_more (let w = range-Among 0 limit r.0 r.1 in omega (arith, w.1)) (tuples-below limit n s.0 s.1))
+    let r = flat_map-In (λ (c : ℕ). map (λ u. c ∷ u) (tuples n limit)) (range_with_len 0 limit) i in
+    let s = map-In (λ u. r.0 ∷ u) (tuples n limit) r.2 in
+    subst (AreBelow limit (suc n)) (sym s.2) (one_more (let w = range-In 0 limit r.0 r.1 in omega (arith, w.1)) (tuples-below limit n s.0 s.1))
 
-below-tuples : (limit : ℕ) {n : ℕ} {t : List ℕ} → AreBelow limit n t → Among t (tuples n limit)
+below-tuples : (limit : ℕ) {n : ℕ} {t : List ℕ} → AreBelow limit n t → In t (tuples n limit)
 below-tuples limit no_more = here
-below-tuples limit (one_more {n} {c} {cs} l b) = Among-flat_map (λ (d : ℕ). map (λ u. d ∷ u) (tuples n limit)) (Among-range 0 limit c (omega arith) (omega arith)) (Among-map (λ u. c ∷ u) (below-tuples limit b))
+below-tuples limit (one_more {n} {c} {cs} l b) = In-flat_map (λ (d : ℕ). map (λ u. d ∷ u) (tuples n limit)) (In-range 0 limit c (omega arith) (omega arith)) (In-map (λ u. c ∷ u) (below-tuples limit b))
 
 distinct-tuples : (limit n : ℕ) → AreDistinct (tuples n limit)
 distinct-tuples limit zero = more (λ i. elim i [ ]) none
 distinct-tuples limit (suc n) =
     distinct-flat_map (λ (c : ℕ). map (λ u. c ∷ u) (tuples n limit)) (distinct-range 0 limit) (λ c. distinct-map (λ u. c ∷ u) (λ t u e. tail_same c t u e) (distinct-tuples limit n))
     (λ c d t i j.
-    let r = map-Among (λ u. c ∷ u) (tuples n limit) i in
-    let s = map-Among (λ u. d ∷ u) (tuples n limit) j in
+    let r = map-In (λ u. c ∷ u) (tuples n limit) i in
+    let s = map-In (λ u. d ∷ u) (tuples n limit) j in
     ap (λ (v : List ℕ). get_or v 0 0) (sym r.2 ∙ s.2))
   where
     tail_same : (c : ℕ) (t u : List ℕ) → c ∷ t ≡ c ∷ u → t ≡ u
@@ -53,20 +57,10 @@ distinct-tuples limit (suc n) =
 -- ---- the facets of a tuple
 
 module _ (side : ℕ) (turns : Turns side) where
-  two_of : {A : Type 0} (b : Bool) (x y : A) {z : A} → Among z (cond b (x ∷ y ∷ []) []) → (b ≡ true) × ((z ≡ x) ⊎ (z ≡ y))
-  two_of true x y here = (refl, inl refl)
-  two_of true x y (there here) = (refl, inr refl)
-  two_of true x y (there (there i)) = elim i [ ]
-  two_of false x y i = elim i [ ]
-
-  -- an odd coordinate is replaced by an even one
-  replaced : (c d : ℕ) (cs : List ℕ) → is_odd c ≡ true → is_odd d ≡ false → dim_of (d ∷ cs) + 1 ≡ dim_of (c ∷ cs)
-  replaced c d cs o e = omega (arith, dim-cons d cs ∙ ap (λ (b : Bool). cond b 1 0 + dim_of cs) e, dim-cons c cs ∙ ap (λ (b : Bool). cond b 1 0 + dim_of cs) o)
-
-  facet_of : {n : ℕ} {t : List ℕ} (u : List ℕ) → AreBelow side n t → Among u (facets_round side t) → AreBelow side n u × (dim_of u + 1 ≡ dim_of t)
+  facet_of : {n : ℕ} {t : List ℕ} (u : List ℕ) → AreBelow side n t → In u (facets_round side t) → AreBelow side n u × (dim_of u + 1 ≡ dim_of t)
   facet_of u no_more i = elim i [ ]
   facet_of u (one_more {n} {c} {cs} l b) i =
-      elim (append-Among (cond (is_odd c) (((c - 1) ∷ cs) ∷ (((c + 1) % side) ∷ cs) ∷ []) []) (map (λ t. c ∷ t) (facets_round side cs)) i) [
+      elim (append-In (cond (is_odd c) (((c - 1) ∷ cs) ∷ (((c + 1) % side) ∷ cs) ∷ []) []) (map (λ t. c ∷ t) (facets_round side cs)) i) [
         | inl p ↦
             let r = two_of (is_odd c) ((c - 1) ∷ cs) (((c + 1) % side) ∷ cs) p in
             elim r.1 [
@@ -74,18 +68,18 @@ module _ (side : ℕ) (turns : Turns side) where
               | inr e ↦ subst (λ (v : List ℕ). AreBelow side (suc n) v × (dim_of v + 1 ≡ dim_of (c ∷ cs))) (sym e) (one_more (up-below side c l) b, replaced c ((c + 1) % side) cs r.0 (turns c l r.0))
             ]
         | inr p ↦
-            let r = map-Among (λ t. c ∷ t) (facets_round side cs) p in
+            let r = map-In (λ t. c ∷ t) (facets_round side cs) p in
             let k = facet_of r.0 b r.1 in
             subst (λ (v : List ℕ). AreBelow side (suc n) v × (dim_of v + 1 ≡ dim_of (c ∷ cs))) (sym r.2) (one_more l k.0, omega (arith, dim-cons c r.0, dim-cons c cs, k.1))
       ]
 
-  some_facet : (t : List ℕ) → 1 ≤ dim_of t → (u : List ℕ) × Among u (facets_round side t)
+  some_facet : (t : List ℕ) → 1 ≤ dim_of t → (u : List ℕ) × In u (facets_round side t)
   some_facet [] h = absurd (omega (arith, h))
   some_facet (c ∷ cs) h = by_test (is_odd c) (omega (arith, h, dim-cons c cs)) (λ k. some_facet cs k)
     where
-      by_test : (b : Bool) → 1 ≤ cond b 1 0 + dim_of cs → (1 ≤ dim_of cs → (u : List ℕ) × Among u (facets_round side cs)) → (u : List ℕ) × Among u (cond b (((c - 1) ∷ cs) ∷ (((c + 1) % side) ∷ cs) ∷ []) [] ++ map (λ t. c ∷ t) (facets_round side cs))
+      by_test : (b : Bool) → 1 ≤ cond b 1 0 + dim_of cs → (1 ≤ dim_of cs → (u : List ℕ) × In u (facets_round side cs)) → (u : List ℕ) × In u (cond b (((c - 1) ∷ cs) ∷ (((c + 1) % side) ∷ cs) ∷ []) [] ++ map (λ t. c ∷ t) (facets_round side cs))
       by_test true l k = ((c - 1) ∷ cs, here)
-      by_test false l k = let r = k (omega (arith, l)) in (c ∷ r.0, Among-map (λ t. c ∷ t) r.1)
+      by_test false l k = let r = k (omega (arith, l)) in (c ∷ r.0, In-map (λ t. c ∷ t) r.1)
 
   -- all triples below a side
   triple_space : 0 < side → side ≤ 38 → IsTupleSpace (facets_round side) (tuples 3 side)
@@ -195,7 +189,7 @@ module _ (side : ℕ) (even : side % 2 ≡ 0) (four : 4 ≤ side) where
       ap (λ (t : Bool). cond t (((offset side b a - 1) ∷ σs) ∷ (((offset side b a + 1) % side) ∷ σs) ∷ []) []) (offset-odd b l o a m) ∙ by_test (is_odd a) refl (λ e. offset-down b l o a m e) (λ e. offset-up b l o a m e) in
       let others : map (λ t. offset side b a ∷ t) (facets_round side σs) ≡ map (offsets (b ∷ bs)) (map (λ t. a ∷ t) (facets_round 3 xs)) =
       ap (map (λ t. offset side b a ∷ t)) (offsets-facets h k)
-      ∙ (map_twice (λ t. offset side b a ∷ t) (offsets bs) (facets_round 3 xs) ∙ sym (map_twice (offsets (b ∷ bs)) (λ t. a ∷ t) (facets_round 3 xs))) in
+      ∙ (map-map (λ t. offset side b a ∷ t) (offsets bs) (facets_round 3 xs) ∙ sym (map-map (offsets (b ∷ bs)) (λ t. a ∷ t) (facets_round 3 xs))) in
       ap (λ (ts : List (List ℕ)). ts ++ map (λ t. offset side b a ∷ t) (facets_round side σs)) first
       ∙ (ap (λ (ts : List (List ℕ)). map (offsets (b ∷ bs)) (cond (is_odd a) (((a - 1) ∷ xs) ∷ (((a + 1) % 3) ∷ xs) ∷ []) []) ++ ts) others
       ∙ sym (map-append (offsets (b ∷ bs)) (cond (is_odd a) (((a - 1) ∷ xs) ∷ (((a + 1) % 3) ∷ xs) ∷ []) []) (map (λ t. a ∷ t) (facets_round 3 xs))))

@@ -5,7 +5,7 @@ use Rattle.std.proofs.lemmas.List.{length-map}
 use Rattle.face_poset.specs.Poset.{cell_count}
 use Rattle.tuple_spaces.specs.TorusPlaces.{volume, dim_at, facets_at, cells_before, stage}
 use Rattle.tuple_spaces.proofs.PassingPlaces.{passing, length-passing-more, volume-le}
-use Rattle.tuple_spaces.proofs.TorusStages.{by_dim}
+use Rattle.tuple_spaces.proofs.MakingLemmas.{by_dim}
 
 -- a number is at most one of four
 one_of : (k : ℕ) → ((cond (eqb k 0) 1 0 + cond (eqb k 1) 1 0) + cond (eqb k 2) 1 0) + cond (eqb k 3) 1 0 ≤ 1

@@ -1,27 +1,23 @@
 -- The torus in the making.
-use Rattle.std.proofs.Common.{◌≡◌, ◌≢◌, ℕ, zero, suc, ◌+◌, ◌-◌, ◌*◌, ◌/◌, ◌%◌, ◌<◌, ◌≤◌, List, [], ◌∷◌, ◌++◌, Bool, true, false, cond, eqb, map, length, get_or, set, refl, ap, sym, ◌∙◌, arith}
+use Rattle.std.proofs.Common.{◌≡◌, ◌≢◌, ℕ, ◌+◌, ◌-◌, ◌*◌, ◌/◌, ◌%◌, ◌<◌, ◌≤◌, List, [], ◌∷◌, ◌++◌, Bool, true, false, cond, eqb, map, length, get_or, set, ap, sym, ◌∙◌, arith}
 use Rattle.std.specs.List.{list_any}
 use Rattle.std.proofs.lemmas.Bool.{eq-eqb, ne_eqb}
 use Rattle.std.proofs.lemmas.List.{map-append, append-nil, length-map}
 use Rattle.face_poset.specs.Words.{upto}
 use Rattle.face_poset.specs.Poset.{layer, count, IsCell}
 use Rattle.number_lists.specs.Members.{In, here}
-use Rattle.number_lists.proofs.CallerLemmas.{In-inside, In-at, at-In, upto-In}
+use Rattle.number_lists.proofs.CallerLemmas.{In-inside, In-at, at-In, upto-In, map-In, In-map}
 use Rattle.tuple_spaces.specs.Tuples.{tuples, same, is_odd, cells_in, numbers_in, layer_of, space_of}
 use Rattle.tuple_spaces.specs.Torus.{facets_round}
 use Rattle.tuple_spaces.specs.TorusPlaces.{volume, triple_at, dim_at, number_at, facet_places, moved, facets_at, cells_before, stage}
 use Rattle.tuple_spaces.proofs.PassingPlaces.{passing, passing-more}
-use Rattle.tuple_spaces.proofs.Triples.{cells_are, map_twice}
-use Rattle.tuple_spaces.proofs.TorusFacets.{Turns, are_neighbors, dim-cons}
-use Rattle.tuple_spaces.proofs.TorusNumbers.{rises, to_facet, from_facet, length-cells, map-In, In-map}
-
--- a fact at each dimension
-pub by_dim : (P : ℕ → Type 0) → P 0 → P 1 → P 2 → P 3 → (d : ℕ) → d ≤ 3 → P d
-by_dim P a b c e zero l = a
-by_dim P a b c e (suc zero) l = b
-by_dim P a b c e (suc (suc zero)) l = c
-by_dim P a b c e (suc (suc (suc zero))) l = e
-by_dim P a b c e (suc (suc (suc (suc d)))) l = absurd (omega arith)
+use Rattle.tuple_spaces.proofs.Triples.{cells_are}
+use Rattle.std.proofs.lemmas.Simd.{map-map}
+use Rattle.tuple_spaces.proofs.TorusFacets.{Turns, are_neighbors}
+use Rattle.tuple_spaces.proofs.OddCoordinates.{dim-cons}
+use Rattle.tuple_spaces.proofs.MakingLemmas.{made-all, made-below, made-more, made-same}
+use Rattle.tuple_spaces.proofs.ListLemmas.{none_in}
+use Rattle.tuple_spaces.proofs.TorusNumbers.{rises, to_facet, from_facet, length-cells}
 
 -- ---- one place more
 
@@ -40,88 +36,30 @@ module _ (side : ℕ) where
   abbrev full : ℕ → List (List ℕ)
   full dim = cells_before side dim (volume side)
 
-  abbrev More : ℕ → ℕ → Type 0
-  More place dim = cells_before side dim (place + 1) ≡ cells_before side dim place ++ facets_at side dim place ∷ [] → set (stage side dim place) dim (layer (stage side dim place) dim ++ facets_at side dim place ∷ []) ≡ stage side dim (place + 1)
+  abbrev done : ℕ → ℕ → List (List ℕ)
+  done place dim = cells_before side dim place
 
   pub stage-more : (dim place : ℕ) → dim ≤ 3 → dim_at side place ≡ dim → set (stage side dim place) dim (layer (stage side dim place) dim ++ facets_at side dim place ∷ []) ≡ stage side dim (place + 1)
-  stage-more dim place l e =
-      by_dim (More place)
-      (λ q. ap (λ (ls : List (List ℕ)). ls ∷ [] ∷ [] ∷ [] ∷ []) (sym q))
-      (λ q. ap (λ (ls : List (List ℕ)). full 0 ∷ ls ∷ [] ∷ [] ∷ []) (sym q))
-      (λ q. ap (λ (ls : List (List ℕ)). full 0 ∷ full 1 ∷ ls ∷ [] ∷ []) (sym q))
-      (λ q. ap (λ (ls : List (List ℕ)). full 0 ∷ full 1 ∷ full 2 ∷ ls ∷ []) (sym q)) dim l (before-here side dim place e)
-
-  abbrev Idle : ℕ → ℕ → Type 0
-  Idle place dim = cells_before side dim (place + 1) ≡ cells_before side dim place → stage side dim place ≡ stage side dim (place + 1)
+  stage-more dim place l e = made-more full (done place) (done (place + 1)) dim (facets_at side dim place) l (before-here side dim place e)
 
   pub stage-idle : (dim place : ℕ) → dim ≤ 3 → dim_at side place ≢ dim → stage side dim place ≡ stage side dim (place + 1)
-  stage-idle dim place l ne =
-      by_dim (Idle place)
-      (λ q. ap (λ (ls : List (List ℕ)). ls ∷ [] ∷ [] ∷ [] ∷ []) (sym q))
-      (λ q. ap (λ (ls : List (List ℕ)). full 0 ∷ ls ∷ [] ∷ [] ∷ []) (sym q))
-      (λ q. ap (λ (ls : List (List ℕ)). full 0 ∷ full 1 ∷ ls ∷ [] ∷ []) (sym q))
-      (λ q. ap (λ (ls : List (List ℕ)). full 0 ∷ full 1 ∷ full 2 ∷ ls ∷ []) (sym q)) dim l (before-other side dim place ne)
-
-  pub stage-end : (dim : ℕ) → dim ≤ 3 → stage side dim (volume side) ≡ stage side (dim + 1) 0
-  stage-end dim l = by_dim (λ d. stage side d (volume side) ≡ stage side (d + 1) 0) refl refl refl refl dim l
-
-  pub stage-begin : stage side 0 0 ≡ [] ∷ [] ∷ [] ∷ [] ∷ []
-  stage-begin = refl
-
-  pub stage-above : (dim place above : ℕ) → dim ≤ 3 → dim < above → count (stage side dim place) above ≡ 0
-  stage-above dim place above l m = by_dim (λ d. (a : ℕ) → d < a → count (stage side d place) a ≡ 0) over0 over1 over2 over3 dim l above m
-    where
-      over0 : (a : ℕ) → 0 < a → count (stage side 0 place) a ≡ 0
-      over0 zero h = absurd (omega arith)
-      over0 (suc zero) h = refl
-      over0 (suc (suc zero)) h = refl
-      over0 (suc (suc (suc zero))) h = refl
-      over0 (suc (suc (suc (suc a)))) h = refl
-
-      over1 : (a : ℕ) → 1 < a → count (stage side 1 place) a ≡ 0
-      over1 zero h = absurd (omega arith)
-      over1 (suc zero) h = absurd (omega arith)
-      over1 (suc (suc zero)) h = refl
-      over1 (suc (suc (suc zero))) h = refl
-      over1 (suc (suc (suc (suc a)))) h = refl
-
-      over2 : (a : ℕ) → 2 < a → count (stage side 2 place) a ≡ 0
-      over2 zero h = absurd (omega arith)
-      over2 (suc zero) h = absurd (omega arith)
-      over2 (suc (suc zero)) h = absurd (omega arith)
-      over2 (suc (suc (suc zero))) h = refl
-      over2 (suc (suc (suc (suc a)))) h = refl
-
-      over3 : (a : ℕ) → 3 < a → count (stage side 3 place) a ≡ 0
-      over3 zero h = absurd (omega arith)
-      over3 (suc zero) h = absurd (omega arith)
-      over3 (suc (suc zero)) h = absurd (omega arith)
-      over3 (suc (suc (suc zero))) h = absurd (omega arith)
-      over3 (suc (suc (suc (suc a)))) h = refl
+  stage-idle dim place l ne = made-same full (done place) (done (place + 1)) dim l (before-other side dim place ne)
 
   -- how many cells stand below
   pub stage-below : (dim place : ℕ) → 0 < side → dim ≤ 3 → 1 ≤ dim → count (stage side dim place) (dim - 1) ≡ length (cells_in (tuples 3 side) (dim - 1))
   stage-below dim place some l m =
-      by_dim (λ d. 1 ≤ d → count (stage side d place) (d - 1) ≡ length (full (d - 1))) (λ h. absurd (omega arith)) (λ h. refl) (λ h. refl) (λ h. refl) dim l m
+      made-below full (done place) dim l m
       ∙ (length-map (passing (λ p. eqb (dim_at side p) (dim - 1)) (volume side)) (facets_at side (dim - 1)) ∙ sym (length-cells side (dim - 1) some))
 
   pub layers : (dim : ℕ) → 0 < side → cells_before side dim (volume side) ≡ map (λ t. numbers_in (cells_in (tuples 3 side) (dim - 1)) (facets_round side t)) (cells_in (tuples 3 side) dim)
   layers dim some =
       sym (ap (map (λ t. numbers_in (cells_in (tuples 3 side) (dim - 1)) (facets_round side t))) (cells_are side dim some)
-      ∙ map_twice (λ t. numbers_in (cells_in (tuples 3 side) (dim - 1)) (facets_round side t)) (triple_at side) (passing (λ p. eqb (dim_at side p) dim) (volume side)))
+      ∙ map-map (λ t. numbers_in (cells_in (tuples 3 side) (dim - 1)) (facets_round side t)) (triple_at side) (passing (λ p. eqb (dim_at side p) dim) (volume side)))
 
   pub stage-all : 0 < side → stage side 4 0 ≡ space_of (facets_round side) (tuples 3 side)
-  stage-all some =
-      ap (λ (ls : List (List ℕ)). ls ∷ full 1 ∷ full 2 ∷ full 3 ∷ []) (layers 0 some)
-      ∙ (ap (λ (ls : List (List ℕ)). layer_of (facets_round side) (tuples 3 side) 0 ∷ ls ∷ full 2 ∷ full 3 ∷ []) (layers 1 some)
-      ∙ (ap (λ (ls : List (List ℕ)). layer_of (facets_round side) (tuples 3 side) 0 ∷ layer_of (facets_round side) (tuples 3 side) 1 ∷ ls ∷ full 3 ∷ []) (layers 2 some)
-      ∙ ap (λ (ls : List (List ℕ)). layer_of (facets_round side) (tuples 3 side) 0 ∷ layer_of (facets_round side) (tuples 3 side) 1 ∷ layer_of (facets_round side) (tuples 3 side) 2 ∷ ls ∷ []) (layers 3 some)))
+  stage-all some = made-all full (done 0) (layer_of (facets_round side) (tuples 3 side)) (λ d. layers d some)
 
 -- ---- what the builder asks of the facets
-
-none_in : (xs : List ℕ) → ((n : ℕ) → In n xs → ⊥) → xs ≡ []
-none_in [] h = refl
-none_in (x ∷ xs) h = absurd (h x here)
 
 -- where a coordinate is odd, there is a facet
 some_of : (a b c d e f : ℕ) (bx by bz : Bool) → 1 ≤ cond bx 1 0 + (cond by 1 0 + (cond bz 1 0 + 0)) → (k : ℕ) × In k (cond bx (a ∷ b ∷ []) [] ++ (cond by (c ∷ d ∷ []) [] ++ cond bz (e ∷ f ∷ []) []))

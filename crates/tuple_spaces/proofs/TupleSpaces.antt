@@ -7,25 +7,26 @@ use Rattle.std.proofs.lemmas.List.{get_or-map, length-map, get_or_default}
 use Rattle.std.proofs.lemmas.List.Kept.{IsStrictlyIncreasing-filter}
 use Rattle.face_poset.specs.Words.{upto}
 use Rattle.face_poset.specs.Poset.{IsCell, IsSpace, layer, count, facets_of}
-use Rattle.number_lists.proofs.CallerLemmas.{increasing-upto, length-filter-le, In-filter, In-inside, filter-In, In-at, at-In, In-upto, upto-In}
+use Rattle.number_lists.proofs.CallerLemmas.{increasing-upto, length-filter-le, In-filter, In-inside, filter-In, In-at, at-In, In-upto, upto-In, AreDistinct, any-In, any-some, In-map, map-In, distinct-filter, distinct-at}
 use Rattle.regular_check.specs.Rules.{IsRegular, two_ends, one_cycle, each_twice, connected, is_spherical}
-use Rattle.number_lists.specs.Members.{In}
-use Rattle.regular_check.proofs.CallerLemmas.{regular_from, IsCopy, edge_copied, disk_copied, solid_copied}
+use Rattle.number_lists.specs.Members.{In, here, there}
+use Rattle.regular_check.proofs.CallerLemmas.{regular_from}
+use Rattle.regular_check.proofs.CallerLemmas.{IsCopy, edge_copied, disk_copied, solid_copied}
 use Rattle.tuple_spaces.specs.Tuples.{same, dim_of, cells_in, numbers_in, layer_of, space_of}
-use Rattle.tuple_spaces.proofs.Among.{Among, here, there, AreDistinct, at-Among, Among-filter, filter-Among, any-Among, any-some, Among-map, map-Among, distinct-filter, distinct-at}
-use Rattle.tuple_spaces.proofs.Triples.{same-eq, eq-same}
-use Rattle.tuple_spaces.proofs.TorusStages.{by_dim}
+use Rattle.tuple_spaces.proofs.OddCoordinates.{same-eq, eq-same}
+use Rattle.tuple_spaces.proofs.MakingLemmas.{by_dim}
+use Rattle.tuple_spaces.proofs.ListLemmas.{none_in}
 
 -- where a tuple stands in a list, counted from 0
 abbrev place_in : List (List ℕ) → List ℕ → ℕ
 place_in [] u = 0
 place_in (t ∷ ts) u = cond (same t u) 0 (suc (place_in ts u))
 
-rest : {t u : List ℕ} {ts : List (List ℕ)} → Among u (t ∷ ts) → same t u ≡ false → Among u ts
+rest : {t u : List ℕ} {ts : List (List ℕ)} → In u (t ∷ ts) → same t u ≡ false → In u ts
 rest {t} here e = absurd (false≢true (sym e ∙ eq-same t))
 rest (there j) e = j
 
-placed : (xs : List (List ℕ)) (u : List ℕ) → Among u xs → (place_in xs u < length xs) × (get_or xs (place_in xs u) [] ≡ u)
+placed : (xs : List (List ℕ)) (u : List ℕ) → In u xs → (place_in xs u < length xs) × (get_or xs (place_in xs u) [] ≡ u)
 placed [] u i = elim i [ ]
 placed (t ∷ ts) u i = by_test (same t u) refl (λ e. placed ts u (rest i e))
   where
@@ -36,8 +37,8 @@ placed (t ∷ ts) u i = by_test (same t u) refl (λ e. placed ts u (rest i e))
 -- all cells are different, and the facets of a cell are cells with one odd coordinate fewer
 pub record IsTupleSpace (facets : List ℕ → List (List ℕ)) (all : List (List ℕ)) : Type 0 where
   pub distinct : AreDistinct all
-  pub closed : (t u : List ℕ) → Among t all → Among u (facets t) → Among u all × (dim_of u + 1 ≡ dim_of t)
-  pub some : (t : List ℕ) → Among t all → 1 ≤ dim_of t → (u : List ℕ) × Among u (facets t)
+  pub closed : (t u : List ℕ) → In t all → In u (facets t) → In u all × (dim_of u + 1 ≡ dim_of t)
+  pub some : (t : List ℕ) → In t all → 1 ≤ dim_of t → (u : List ℕ) × In u (facets t)
   pub few : length all ≤ 60000
 
 module _ (facets : List ℕ → List (List ℕ)) (all : List (List ℕ)) where
@@ -65,7 +66,7 @@ module _ (facets : List ℕ → List (List ℕ)) (all : List (List ℕ)) where
   tuple_of d c = get_or (cells_in all d) (c - 1) []
 
   pub record IsTuple (d c : ℕ) (t : List ℕ) : Type 0 where
-    pub among : Among t all
+    pub among : In t all
     pub dim : dim_of t ≡ d
     pub facets_are : facets_of (space_of facets all) d c ≡ numbers_in (cells_in all (d - 1)) (facets t)
 
@@ -73,10 +74,10 @@ module _ (facets : List ℕ → List (List ℕ)) (all : List (List ℕ)) where
   is_tuple d c low high =
       let three : d ≤ 3 = dim-low d c low high in
       let l : c - 1 < length (cells_in all d) = omega (arith, low, high, count-at d three) in
-      let f = filter-Among (λ t. eqb (dim_of t) d) all (at-Among (cells_in all d) (c - 1) [] l) in
+      let i : In (tuple_of d c) (cells_in all d) = at-In (cells_in all d) (c - 1) [] l in
       record {
-        among = f.0;
-        dim = eqb-true (dim_of (tuple_of d c)) d f.1;
+        among = In-inside (λ t. eqb (dim_of t) d) all i;
+        dim = eqb-true (dim_of (tuple_of d c)) d (filter-In (λ t. eqb (dim_of t) d) all i);
         facets_are = ap (λ (ls : List (List ℕ)). get_or ls (c - 1) []) (layer-at d three) ∙ get_or-map (λ t. numbers_in (cells_in all (d - 1)) (facets t)) (cells_in all d) (c - 1) [] [] l;
       }
 
@@ -89,9 +90,9 @@ module _ (facets : List ℕ → List (List ℕ)) (all : List (List ℕ)) where
     pub high : c ≤ count (space_of facets all) d
     pub back : get_or (cells_in all d) (c - 1) [] ≡ u
 
-  pub is_number : (d : ℕ) (u : List ℕ) → d ≤ 3 → Among u all → dim_of u ≡ d → IsNumber d u (place_in (cells_in all d) u + 1)
+  pub is_number : (d : ℕ) (u : List ℕ) → d ≤ 3 → In u all → dim_of u ≡ d → IsNumber d u (place_in (cells_in all d) u + 1)
   is_number d u three i e =
-      let p = placed (cells_in all d) u (Among-filter (λ t. eqb (dim_of t) d) i (eq-eqb (dim_of u) d e)) in
+      let p = placed (cells_in all d) u (In-filter (λ t. eqb (dim_of t) d) i (eq-eqb (dim_of u) d e)) in
       let q : place_in (cells_in all d) u + 1 - 1 ≡ place_in (cells_in all d) u = omega arith in
       record { low = omega arith; high = omega (arith, p.0, count-at d three); back = ap (λ (k : ℕ). get_or (cells_in all d) k []) q ∙ p.1 }
 
@@ -109,7 +110,7 @@ module _ (facets : List ℕ → List (List ℕ)) (all : List (List ℕ)) where
 
     -- the numbers of facets are those of the tuples of facets
     pub facets-In : (d c f : ℕ) → 1 ≤ c → c ≤ count (space_of facets all) (suc d) → In f (facets_of (space_of facets all) (suc d) c)
-        → Among (get_or (cells_in all d) (f - 1) []) (facets (get_or (cells_in all (suc d)) (c - 1) [])) × (1 ≤ f) × (f ≤ count (space_of facets all) d)
+        → In (get_or (cells_in all d) (f - 1) []) (facets (get_or (cells_in all (suc d)) (c - 1) [])) × (1 ≤ f) × (f ≤ count (space_of facets all) d)
     facets-In d c f low high i =
         let s = is_tuple (suc d) c low high in
         let t : List ℕ = tuple_of (suc d) c in
@@ -118,9 +119,9 @@ module _ (facets : List ℕ → List (List ℕ)) (all : List (List ℕ)) where
         let w = upto-In (length (cells_in all d)) f (In-inside (has (cells_in all d) (facets t)) (upto (length (cells_in all d))) j) in
         let r = any-some (same (tuple_of d f)) (facets t) (filter-In (has (cells_in all d) (facets t)) (upto (length (cells_in all d))) j) in
         let three : suc d ≤ 3 = dim-low (suc d) c low high in
-        (subst (λ (u : List ℕ). Among u (facets t)) (sym (same-eq (tuple_of d f) r.0 r.2)) r.1, w.0, omega (arith, w.1, count-at d (omega (arith, three))))
+        (subst (λ (u : List ℕ). In u (facets t)) (sym (same-eq (tuple_of d f) r.0 r.2)) r.1, w.0, omega (arith, w.1, count-at d (omega (arith, three))))
 
-    pub In-facets : (d c : ℕ) (u : List ℕ) → 1 ≤ c → c ≤ count (space_of facets all) (suc d) → Among u (facets (get_or (cells_in all (suc d)) (c - 1) [])) → In (place_in (cells_in all d) u + 1) (facets_of (space_of facets all) (suc d) c)
+    pub In-facets : (d c : ℕ) (u : List ℕ) → 1 ≤ c → c ≤ count (space_of facets all) (suc d) → In u (facets (get_or (cells_in all (suc d)) (c - 1) [])) → In (place_in (cells_in all d) u + 1) (facets_of (space_of facets all) (suc d) c)
     In-facets d c u low high i =
         let s = is_tuple (suc d) c low high in
         let t : List ℕ = tuple_of (suc d) c in
@@ -130,15 +131,11 @@ module _ (facets : List ℕ → List (List ℕ)) (all : List (List ℕ)) where
         let n : IsNumber d u (number_of d u) = is_number d u (omega (arith, three)) k.0 (omega (arith, k.1, s.dim)) in
         let j : In (number_of d u) (numbers_in (cells_in all d) (facets t)) =
         In-filter (has (cells_in all d) (facets t)) (In-upto (length (cells_in all d)) (number_of d u) n.low (omega (arith, n.high, count-at d (omega (arith, three)))))
-        (any-Among (same (tuple_of d (number_of d u))) i (ap (λ (v : List ℕ). same v u) n.back ∙ eq-same u)) in
+        (any-In (same (tuple_of d (number_of d u))) i (ap (λ (v : List ℕ). same v u) n.back ∙ eq-same u)) in
         subst (In (number_of d u)) (sym s.facets_are) (subst (λ (k : ℕ). In (number_of d u) (numbers_in (cells_in all k) (facets t))) (sym e) j)
 
     count-few : (d : ℕ) → d ≤ 3 → count (space_of facets all) d ≤ 60000
     count-few d l = omega (arith, count-at d l, length-filter-le (λ t. eqb (dim_of t) d) all, h.few)
-
-    none_in : (xs : List ℕ) → ((n : ℕ) → In n xs → ⊥) → xs ≡ []
-    none_in [] k = refl
-    none_in (x ∷ xs) k = absurd (k x (at-In (x ∷ xs) 0 0 (omega arith)))
 
     pub is_space : IsSpace (space_of facets all)
     is_space =
@@ -156,7 +153,7 @@ module _ (facets : List ℕ → List (List ℕ)) (all : List (List ℕ)) where
           few = omega (arith, count-few 0 (omega arith), count-few 1 (omega arith), count-few 2 (omega arith), count-few 3 (omega arith));
         }
       where
-        point : (t : List ℕ) → Among t all → dim_of t ≡ 0 → numbers_in (cells_in all (0 - 1)) (facets t) ≡ []
+        point : (t : List ℕ) → In t all → dim_of t ≡ 0 → numbers_in (cells_in all (0 - 1)) (facets t) ≡ []
         point t i e =
             none_in (numbers_in (cells_in all (0 - 1)) (facets t))
             (λ n j.
@@ -179,10 +176,10 @@ module _ (facets : List ℕ → List (List ℕ)) (all : List (List ℕ)) where
 
 -- σ moves the tuples of the first into those of the second, and facets to facets
 pub record IsMoving (facets : List ℕ → List (List ℕ)) (all : List (List ℕ)) (others : List ℕ → List (List ℕ)) (more : List (List ℕ)) (σ : List ℕ → List ℕ) : Type 0 where
-  pub into : (t : List ℕ) → Among t all → Among (σ t) more
-  pub dim : (t : List ℕ) → Among t all → dim_of (σ t) ≡ dim_of t
-  pub once : (t u : List ℕ) → Among t all → Among u all → σ t ≡ σ u → t ≡ u
-  pub facets_are : (t : List ℕ) → Among t all → others (σ t) ≡ map σ (facets t)
+  pub into : (t : List ℕ) → In t all → In (σ t) more
+  pub dim : (t : List ℕ) → In t all → dim_of (σ t) ≡ dim_of t
+  pub once : (t u : List ℕ) → In t all → In u all → σ t ≡ σ u → t ≡ u
+  pub facets_are : (t : List ℕ) → In t all → others (σ t) ≡ map σ (facets t)
 
 module _ (facets : List ℕ → List (List ℕ)) (all : List (List ℕ)) (others : List ℕ → List (List ℕ)) (more : List (List ℕ)) (h : IsTupleSpace facets all) (k : IsTupleSpace others more) where
   -- the cells of the first space
@@ -201,7 +198,7 @@ module _ (facets : List ℕ → List (List ℕ)) (all : List (List ℕ)) (others
         is_number others more d (σ t) (dim-low facets all d c p.0 p.1) (m.into t s.among) (m.dim t s.among ∙ s.dim)
 
     -- the cell of a tuple goes to that of the tuple moved
-    φ-number : (d : ℕ) (u : List ℕ) → d ≤ 3 → Among u all → dim_of u ≡ d → φ d (place_in (cells_in all d) u + 1) ≡ place_in (cells_in more d) (σ u) + 1
+    φ-number : (d : ℕ) (u : List ℕ) → d ≤ 3 → In u all → dim_of u ≡ d → φ d (place_in (cells_in all d) u + 1) ≡ place_in (cells_in more d) (σ u) + 1
     φ-number d u l i e = ap (λ (t : List ℕ). place_in (cells_in more d) (σ t) + 1) (is_number facets all d u l i e).back
 
     copy : IsCopy (space_of facets all) (space_of others more) part φ
@@ -221,17 +218,17 @@ module _ (facets : List ℕ → List (List ℕ)) (all : List (List ℕ)) (others
               let n = moved (suc d) c p in
               let t : List ℕ = get_or (cells_in all (suc d)) (c - 1) [] in
               let u : List ℕ = get_or (cells_in all d) (f - 1) [] in
-              let j : Among (σ u) (others (get_or (cells_in more (suc d)) (φ (suc d) c - 1) [])) = subst (λ (v : List ℕ). Among (σ u) (others v)) (sym n.back) (subst (Among (σ u)) (sym (m.facets_are t s.among)) (Among-map σ r.0)) in
+              let j : In (σ u) (others (get_or (cells_in more (suc d)) (φ (suc d) c - 1) [])) = subst (λ (v : List ℕ). In (σ u) (others v)) (sym n.back) (subst (In (σ u)) (sym (m.facets_are t s.among)) (In-map σ r.0)) in
               In-facets others more k d (φ (suc d) c) (σ u) n.low n.high j;
           from = λ d c y p i.
               let s = is_tuple facets all (suc d) c p.0 p.1 in
               let n = moved (suc d) c p in
               let t : List ℕ = get_or (cells_in all (suc d)) (c - 1) [] in
               let r = facets-In others more k d (φ (suc d) c) y n.low n.high i in
-              let j : Among (get_or (cells_in more d) (y - 1) []) (map σ (facets t)) = subst (Among (get_or (cells_in more d) (y - 1) [])) (m.facets_are t s.among) (subst (λ (v : List ℕ). Among (get_or (cells_in more d) (y - 1) []) (others v)) n.back r.0) in
-              let w = map-Among σ (facets t) j in
+              let j : In (get_or (cells_in more d) (y - 1) []) (map σ (facets t)) = subst (In (get_or (cells_in more d) (y - 1) [])) (m.facets_are t s.among) (subst (λ (v : List ℕ). In (get_or (cells_in more d) (y - 1) []) (others v)) n.back r.0) in
+              let w = map-In σ (facets t) j in
               let three : d ≤ 3 = (let l : suc d ≤ 3 = dim-low facets all (suc d) c p.0 p.1 in omega arith) in
-              let low : Among w.0 all × (dim_of w.0 + 1 ≡ dim_of t) = h.closed t w.0 s.among w.1 in
+              let low : In w.0 all × (dim_of w.0 + 1 ≡ dim_of t) = h.closed t w.0 s.among w.1 in
               let e : dim_of w.0 ≡ d = omega (arith, low.1, s.dim) in
               let v : IsNumber others more d (σ w.0) (place_in (cells_in more d) (σ w.0) + 1) = is_number others more d (σ w.0) three (m.into w.0 low.0) (m.dim w.0 low.0 ∙ e) in
               let same_cell : y ≡ place_in (cells_in more d) (σ w.0) + 1 = cell_once others more k d y (place_in (cells_in more d) (σ w.0) + 1) r.1 r.2 v.low v.high (w.2 ∙ sym v.back) in
@@ -243,7 +240,7 @@ module _ (facets : List ℕ → List (List ℕ)) (all : List (List ℕ)) (others
       pub cell : part d s
       pub is : c ≡ φ d s
 
-    covered : (d c : ℕ) (u : List ℕ) → 1 ≤ c → c ≤ count (space_of others more) d → Among u all → get_or (cells_in more d) (c - 1) [] ≡ σ u → IsCovered d c (place_in (cells_in all d) u + 1)
+    covered : (d c : ℕ) (u : List ℕ) → 1 ≤ c → c ≤ count (space_of others more) d → In u all → get_or (cells_in more d) (c - 1) [] ≡ σ u → IsCovered d c (place_in (cells_in all d) u + 1)
     covered d c u low high i e =
         let s = is_tuple others more d c low high in
         let three : d ≤ 3 = dim-low others more d c low high in
@@ -255,11 +252,11 @@ module _ (facets : List ℕ → List (List ℕ)) (all : List (List ℕ)) (others
   -- a cell that a moving brings from the first space
   pub record IsBrought (t : List ℕ) (σ : List ℕ → List ℕ) (u : List ℕ) : Type 0 where
     pub moving : IsMoving facets all others more σ
-    pub among : Among u all
+    pub among : In u all
     pub is : t ≡ σ u
 
   -- where each cell is brought from a regular space, the second is regular
-  pub regular_by_copies : IsRegular (space_of facets all) → ((t : List ℕ) → Among t more → 1 ≤ dim_of t → (σ : List ℕ → List ℕ) × ((u : List ℕ) × IsBrought t σ u)) → IsRegular (space_of others more)
+  pub regular_by_copies : IsRegular (space_of facets all) → ((t : List ℕ) → In t more → 1 ≤ dim_of t → (σ : List ℕ → List ℕ) × ((u : List ℕ) × IsBrought t σ u)) → IsRegular (space_of others more)
   regular_by_copies regular brought =
       let hs : IsSpace (space_of facets all) = is_space facets all h in
       let ho : IsSpace (space_of others more) = is_space others more k in

@@ -1,8 +1,8 @@
 -- The cube of each dimension up to 3, with all its faces, is regular.
 use Rattle.std.proofs.Common.{◌≤◌, ℕ, List, [], ◌∷◌, length, refl, arith}
 use Rattle.regular_check.specs.Rules.{IsRegular}
-use Rattle.tuple_spaces.specs.Tuples.{space_of}
-use Rattle.tuple_spaces.specs.Voxels.{boxed, facets}
+use Rattle.tuple_spaces.specs.Tuples.{space_of, boxed}
+use Rattle.tuple_spaces.specs.Voxels.{facets}
 
 point_regular : IsRegular (space_of facets (boxed []))
 point_regular = refl

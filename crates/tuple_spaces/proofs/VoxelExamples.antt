@@ -1,6 +1,6 @@
 -- Worked examples of the definitions.
 use Rattle.std.proofs.Common.{◌≡◌, refl, ◌∷◌, [], length, Ok, true, false}
-use Rattle.gap_text.specs.Value.{number, list, values}
+use Rattle.array_values.specs.Value.{number, list, values}
 use Rattle.tuple_spaces.specs.Voxels.{facets, cells_of, voxel_space, cubical_of}
 use Rattle.tuple_spaces.specs.VoxelLaws.{lies_in}
 

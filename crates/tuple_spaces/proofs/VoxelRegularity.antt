@@ -1,21 +1,23 @@
 -- Spaces of voxels are regular: a cell with its faces is a part of a cube, moved.
-use Rattle.std.proofs.Common.{◌≡◌, ℕ, ◌+◌, ◌≤◌, List, [], ◌∷◌, Bool, true, false, cond, nat_lt, filter, filter, length, map, Result, Ok, Err, refl, ap, sym, ◌∙◌, subst, arith}
+use Rattle.std.proofs.Common.{◌≡◌, ℕ, ◌+◌, ◌≤◌, List, Bool, true, false, cond, nat_lt, filter, filter, length, map, Result, Ok, Err, refl, ap, sym, ◌∙◌, subst, arith}
 use Rattle.std.specs.List.{list_any, list_all, flat_map, items_where_true}
 use Rattle.std.proofs.lemmas.Bool.Decides.{nat_tests}
-use Rattle.gap_text.specs.Value.{Value}
+use Rattle.array_values.specs.Value.{Value}
 use Rattle.array_values.specs.declared.fault.ArrayFault.{ArrayFault}
 use Rattle.array_values.specs.declared.fault.ArrayFault.TheVariants.{TooManyCells, BadDimension, Empty}
 use Rattle.array_values.specs.Answers.{and_then}
 use Rattle.array_values.specs.Bits.{Bits, array_of, sizes_of, bits_of, is_allowed}
-use Rattle.array_values.proofs.Gather.{both_ok}
+use Rattle.array_values.proofs.CallerLemmas.{both_ok}
 use Rattle.regular_check.specs.Rules.{IsRegular}
-use Rattle.tuple_spaces.specs.Tuples.{same, dim_of, space_of}
-use Rattle.tuple_spaces.proofs.Triples.{same-eq, eq-same}
-use Rattle.tuple_spaces.proofs.Among.{Among, here, there, Among-filter, filter-Among, any-Among, any-some, flat_map-Among, Among-flat_map, map-Among, distinct-filter}
+use Rattle.tuple_spaces.specs.Tuples.{same, dim_of, space_of, boxed}
+use Rattle.tuple_spaces.proofs.OddCoordinates.{same-eq, eq-same}
+use Rattle.tuple_spaces.proofs.ListLemmas.{where-In}
+use Rattle.number_lists.specs.Members.{In}
+use Rattle.number_lists.proofs.CallerLemmas.{In-filter, filter-In, any-In, any-some, flat_map-In, In-flat_map, map-In, distinct-filter, all-In, In-all, In-inside}
 use Rattle.tuple_spaces.proofs.TupleSpaces.{IsTupleSpace, IsMoving, regular_by_copies}
-use Rattle.tuple_spaces.specs.Voxels.{boxed, voxel, faces, facets, limits_of, cells_of, limited, voxel_space, cubical_of}
+use Rattle.tuple_spaces.specs.Voxels.{voxel, faces, facets, limits_of, cells_of, limited, voxel_space, cubical_of}
 use Rattle.tuple_spaces.specs.VoxelLaws.{lies_in}
-use Rattle.tuple_spaces.proofs.Boxes.{Within, boxed-within, within-boxed, distinct-boxed, lies-within, within-lies, all-Among, Among-all}
+use Rattle.tuple_spaces.proofs.Boxes.{Within, boxed-within, within-boxed, distinct-boxed, lies-within, within-lies}
 use Rattle.tuple_spaces.proofs.VoxelCubes.{threes, threes_regular, threes_few}
 use Rattle.tuple_spaces.proofs.VoxelShifts.{facet_of, some_facet, shift, shift-within, shift-dim, shift-once, shift-facets, face-moved, moved-face}
 
@@ -32,33 +34,32 @@ cube_space sizes l =
 module _ (sizes : List ℕ) (indices : List (List ℕ)) (inside : list_all (lies_in sizes) indices ≡ true) where
   -- a cell is a tuple of the cube, moved to one of the voxels
   record IsFace (t index u : List ℕ) : Type 0 where
-    pub chosen : Among index indices
+    pub chosen : In index indices
     pub within : Within sizes index
     pub small : Within (threes sizes) u
     pub is : t ≡ shift index u
 
-  index-within : (index : List ℕ) → Among index indices → Within sizes index
-  index-within index i = lies-within sizes index (all-Among (lies_in sizes) inside i)
+  index-within : (index : List ℕ) → In index indices → Within sizes index
+  index-within index i = lies-within sizes index (all-In (lies_in sizes) inside i)
 
-  face_in : (t index : List ℕ) → Among index indices → Among t (faces (voxel index)) → (u : List ℕ) × IsFace t index u
+  face_in : (t index : List ℕ) → In index indices → In t (faces (voxel index)) → (u : List ℕ) × IsFace t index u
   face_in t index i j =
       let w : Within sizes index = index-within index i in
       let m = face-moved sizes index t w j in
       (m.0, record { chosen = i; within = w; small = m.1.small; is = m.1.is })
 
-  face_of : (t : List ℕ) → Among t (cells_of sizes indices) → (index : List ℕ) × ((u : List ℕ) × IsFace t index u)
+  face_of : (t : List ℕ) → In t (cells_of sizes indices) → (index : List ℕ) × ((u : List ℕ) × IsFace t index u)
   face_of t i =
-      let f = filter-Among (λ v. list_any (same v) (flat_map (λ n. faces (voxel n)) indices)) (boxed (limits_of sizes)) i in
-      let s = any-some (same t) (flat_map (λ n. faces (voxel n)) indices) f.1 in
-      let r = flat_map-Among (λ n. faces (voxel n)) indices s.1 in
-      (r.0, face_in t r.0 r.1 (subst (λ (v : List ℕ). Among v (faces (voxel r.0))) (sym (same-eq t s.0 s.2)) r.2))
+      let s = any-some (same t) (flat_map (λ n. faces (voxel n)) indices) (filter-In (λ v. list_any (same v) (flat_map (λ n. faces (voxel n)) indices)) (boxed (limits_of sizes)) i) in
+      let r = flat_map-In (λ n. faces (voxel n)) indices s.1 in
+      (r.0, face_in t r.0 r.1 (subst (λ (v : List ℕ). In v (faces (voxel r.0))) (sym (same-eq t s.0 s.2)) r.2))
 
-  cell_at : (index u : List ℕ) → Among index indices → Within sizes index → Within (threes sizes) u → Among (shift index u) (cells_of sizes indices)
+  cell_at : (index u : List ℕ) → In index indices → Within sizes index → Within (threes sizes) u → In (shift index u) (cells_of sizes indices)
   cell_at index u i w k =
-      Among-filter (λ v. list_any (same v) (flat_map (λ n. faces (voxel n)) indices)) (within-boxed (shift-within u w k))
-      (any-Among (same (shift index u)) (Among-flat_map (λ n. faces (voxel n)) i (moved-face sizes index u w k)) (eq-same (shift index u)))
+      In-filter (λ v. list_any (same v) (flat_map (λ n. faces (voxel n)) indices)) (within-boxed (shift-within u w k))
+      (any-In (same (shift index u)) (In-flat_map (λ n. faces (voxel n)) i (moved-face sizes index u w k)) (eq-same (shift index u)))
 
-  moving : (index : List ℕ) → Among index indices → Within sizes index → IsMoving facets (boxed (threes sizes)) facets (cells_of sizes indices) (shift index)
+  moving : (index : List ℕ) → In index indices → Within sizes index → IsMoving facets (boxed (threes sizes)) facets (cells_of sizes indices) (shift index)
   moving index i w = record {
     into = λ t j. cell_at index t i w (boxed-within (threes sizes) t j);
     dim = λ t j. shift-dim t w (boxed-within (threes sizes) t j);
@@ -67,15 +68,15 @@ module _ (sizes : List ℕ) (indices : List (List ℕ)) (inside : list_all (lies
   }
 
   -- a facet of a cell is a cell
-  facet_cell : (t u : List ℕ) → Among t (cells_of sizes indices) → Among u (facets t) → Among u (cells_of sizes indices) × (dim_of u + 1 ≡ dim_of t)
+  facet_cell : (t u : List ℕ) → In t (cells_of sizes indices) → In u (facets t) → In u (cells_of sizes indices) × (dim_of u + 1 ≡ dim_of t)
   facet_cell t u i j =
       let f = face_of t i in
-      let k : Among u (map (shift f.0) (facets f.1.0)) = subst (Among u) (shift-facets f.1.0 f.1.1.within f.1.1.small) (subst (λ (s : List ℕ). Among u (facets s)) f.1.1.is j) in
-      let m = map-Among (shift f.0) (facets f.1.0) k in
+      let k : In u (map (shift f.0) (facets f.1.0)) = subst (In u) (shift-facets f.1.0 f.1.1.within f.1.1.small) (subst (λ (s : List ℕ). In u (facets s)) f.1.1.is j) in
+      let m = map-In (shift f.0) (facets f.1.0) k in
       let n = facet_of sizes f.1.0 m.0 f.1.1.small m.1 in
       let e : dim_of u ≡ dim_of m.0 = ap dim_of m.2 ∙ shift-dim m.0 f.1.1.within n.0 in
       let g : dim_of t ≡ dim_of f.1.0 = ap dim_of f.1.1.is ∙ shift-dim f.1.0 f.1.1.within f.1.1.small in
-      (subst (λ (s : List ℕ). Among s (cells_of sizes indices)) (sym m.2) (cell_at f.0 m.0 f.1.1.chosen f.1.1.within n.0), omega (arith, e, g, n.1))
+      (subst (λ (s : List ℕ). In s (cells_of sizes indices)) (sym m.2) (cell_at f.0 m.0 f.1.1.chosen f.1.1.within n.0), omega (arith, e, g, n.1))
 
   voxel_cells : length (cells_of sizes indices) ≤ 60000 → IsTupleSpace facets (cells_of sizes indices)
   voxel_cells few =
@@ -110,23 +111,16 @@ voxels_regular sizes indices space l inside e =
 
 -- the indices that are kept lie in the box
 pub kept-inside : (sizes : List ℕ) (keeps : List ℕ → Bool) → list_all (lies_in sizes) (filter keeps (boxed sizes)) ≡ true
-kept-inside sizes keeps = Among-all (lies_in sizes) (filter keeps (boxed sizes)) (λ index i. within-lies (boxed-within sizes index (filter-Among keeps (boxed sizes) i).0))
+kept-inside sizes keeps = In-all (lies_in sizes) (filter keeps (boxed sizes)) (λ index i. within-lies (boxed-within sizes index (In-inside keeps (boxed sizes) i)))
 
 pub kept_regular : (sizes : List ℕ) (keeps : List ℕ → Bool) (space : List (List (List ℕ))) → length sizes ≤ 3 → voxel_space sizes (filter keeps (boxed sizes)) ≡ Ok space → IsRegular space
 kept_regular sizes keeps space l e = voxels_regular sizes (filter keeps (boxed sizes)) space l (kept-inside sizes keeps) e
 
 -- ---- arrays
 
-picked-Among : {A : Type 0} {x : A} (bits : List Bool) (xs : List A) → Among x (items_where_true bits xs) → Among x xs
-picked-Among [] xs i = elim i [ ]
-picked-Among (b ∷ bits) [] i = elim i [ ]
-picked-Among (true ∷ bits) (x ∷ xs) here = here
-picked-Among (true ∷ bits) (x ∷ xs) (there i) = there (picked-Among bits xs i)
-picked-Among (false ∷ bits) (x ∷ xs) i = there (picked-Among bits xs i)
-
 -- the indices of the ones of an array lie in its box
 pub ones-inside : (sizes : List ℕ) (bits : List Bool) → list_all (lies_in sizes) (items_where_true bits (boxed sizes)) ≡ true
-ones-inside sizes bits = Among-all (lies_in sizes) (items_where_true bits (boxed sizes)) (λ index i. within-lies (boxed-within sizes index (picked-Among bits (boxed sizes) i)))
+ones-inside sizes bits = In-all (lies_in sizes) (items_where_true bits (boxed sizes)) (λ index i. within-lies (boxed-within sizes index (where-In bits (boxed sizes) i)))
 
 -- the answer that follows the sizes
 abbrev array_from : Value → List ℕ → Result Bits ArrayFault

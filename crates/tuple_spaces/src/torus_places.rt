@@ -1,9 +1,9 @@
 // Triples of coordinates below a side, by their places in lexicographic order, which are counted from 0.
-ghost use Rattle.std.specs.Prelude.{◌≡◌, ℕ, ◌+◌, ◌-◌, ◌*◌, ◌/◌, ◌%◌, ◌<◌, ◌≤◌, ◌++◌, length, map, slice_index, Contains, IfOk, OnOk};
+ghost use Rattle.std.specs.Prelude.{◌≡◌, ◌+◌, ◌-◌, ◌*◌, ◌/◌, ◌%◌, ◌<◌, ◌≤◌, ◌++◌, length, map, slice_index, IfOk, OnOk};
 ghost use Rattle.std.specs.List.{range_with_len};
-ghost use Rattle.std.specs.List.Sorted.{IsStrictlyIncreasing};
 ghost use Rattle.tuple_spaces.specs.TorusPlaces.{volume, dim_at, number_at, pair_places, facets_at};
 
+use number_lists::sort_once;
 use std::alloc::{AllocError, Global};
 
 /// How many coordinates of the triple at a place are odd.
@@ -88,14 +88,4 @@ pub(crate) fn list_facets(
     push_pair(numbers, side, 1, place, rest % side, facets)?;
     sort_once(facets);
     Ok(())
-}
-
-/// Sorts the numbers, and leaves each once.
-fn sort_once(numbers: &mut Vec<u32>)
-    ensures rises { IsStrictlyIncreasing numbers.new.items }
-    ensures keeps { (n : ℕ) → Contains numbers.old.items n → Contains numbers.new.items n }
-    ensures adds_none { (n : ℕ) → Contains numbers.new.items n → Contains numbers.old.items n }
-{
-    numbers.sort_unstable();
-    numbers.dedup();
 }

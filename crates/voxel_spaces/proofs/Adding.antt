@@ -7,10 +7,11 @@ use Rattle.number_lists.specs.Members.{In}
 use Rattle.array_values.specs.Bits.{volume}
 use Rattle.tuple_spaces.specs.Tuples.{cells_in, numbers_in}
 use Rattle.tuple_spaces.specs.Voxels.{facets}
-use Rattle.voxel_spaces.specs.Places.{strides_of, tuple_at, dim_at, facet_places, number_among, stage, IsClosed}
+use Rattle.voxel_spaces.specs.Places.{dim_at, facet_places, number_among, stage, IsClosed}
+use Rattle.voxel_spaces.specs.BoxTuples.{strides_of, tuple_at}
 use Rattle.voxel_spaces.proofs.CellNumbers.{sorted_facets, no_facets, cell_facets}
 use Rattle.voxel_spaces.proofs.SpaceStages.{stage-more, stage-below}
-use Rattle.voxel_spaces.proofs.Finding.{to_In, from_In}
+use Rattle.number_lists.proofs.CallerLemmas.{Contains-In, In-Contains}
 
 -- the numbers of the facets of the cell at a place
 abbrev pub facets_at : (ss P : List ℕ) → (place : ℕ) → List ℕ
@@ -21,11 +22,11 @@ There ss P = (p : ℕ) → Contains P p → (k : ℕ) → Contains (facet_places
 
 -- the same by members
 inside : (ss P : List ℕ) → There ss P → (p : ℕ) → In p P → (k : ℕ) → In k (facet_places ss p) → In k P
-inside ss P h p i k j = to_In P k (h p (from_In P p i) k (from_In (facet_places ss p) k j))
+inside ss P h p i k j = Contains-In (h p (In-Contains i) k (In-Contains j))
 
 module _ (ss P : List ℕ) (c : IsClosed ss P) (inc : IsStrictlyIncreasing P) (place : ℕ) (there_is : In place P) where
   low : (p : ℕ) → In p P → p < volume c.limits
-  low p i = c.below p (from_In P p i)
+  low p i = c.below p (In-Contains i)
 
   pub facets_sorted : (listed sorted : List ℕ) → listed ≡ map (number_among ss P) (facet_places ss place) → IsStrictlyIncreasing sorted
       → ((n : ℕ) → Contains listed n → Contains sorted n) → ((n : ℕ) → Contains sorted n → Contains listed n) → sorted ≡ facets_at ss P place

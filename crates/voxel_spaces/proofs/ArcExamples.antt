@@ -1,6 +1,6 @@
 -- Worked examples of which voxels stay. Two rows, each with the columns 1 and 2.
 use Rattle.std.proofs.Common.{◌≡◌, refl, ◌∷◌, [], List, ℕ, true, false, filter, length}
-use Rattle.tuple_spaces.specs.Voxels.{boxed}
+use Rattle.tuple_spaces.specs.Tuples.{boxed}
 use Rattle.voxel_spaces.specs.ArcComplements.{box_of, is_taken, stays}
 
 abbrev rows : List (ℕ × ℕ)

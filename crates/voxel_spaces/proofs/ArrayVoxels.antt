@@ -3,13 +3,14 @@ use Rattle.std.proofs.Common.{◌≡◌, ℕ, ◌<◌, ◌≤◌, List, Bool, tr
 use Rattle.std.specs.List.{list_any, items_where_true, range_with_len, All}
 use Rattle.std.specs.List.Sorted.{IsStrictlyIncreasing}
 use Rattle.std.proofs.lemmas.List.FromFn.{length-range_with_len}
-use Rattle.number_lists.proofs.CallerLemmas.{at-In}
+use Rattle.number_lists.proofs.CallerLemmas.{at-In, increasing-range}
 use Rattle.array_values.specs.Bits.{volume}
-use Rattle.tuple_spaces.specs.Voxels.{boxed}
-use Rattle.voxel_spaces.specs.Places.{strides_of, tuple_at}
+use Rattle.tuple_spaces.specs.Tuples.{boxed}
+use Rattle.voxel_spaces.specs.BoxTuples.{strides_of, tuple_at}
 use Rattle.voxel_spaces.proofs.PlacesInBoxes.{Some, boxed-is}
-use Rattle.voxel_spaces.proofs.ClosedPlaces.{some-sizes, increasing-range, In-range}
-use Rattle.voxel_spaces.proofs.Ones.{where-map, where-In, where-rises, where-some, some-bits}
+use Rattle.voxel_spaces.proofs.ClosedPlaces.{some-sizes}
+use Rattle.tuple_spaces.proofs.CallerLemmas.{where-map, where-In, below-In}
+use Rattle.voxel_spaces.proofs.Ones.{where-rises, where-some, some-bits}
 
 pub record IsReady (sizes : List ℕ) (bits : List Bool) (ones : List ℕ) : Type 0 where
   pub box_some : Some sizes
@@ -25,8 +26,8 @@ ready_here sizes bits full one =
     let some : Some sizes = some-sizes sizes (omega (arith, some-bits bits one, full)) in
     record {
       box_some = some;
-      inside = λ k d l. omega (arith, In-range n (get_or (items_where_true bits places) k d) (where-In bits places (at-In (items_where_true bits places) k d l)), full);
-      rises = where-rises bits places (increasing-range n);
+      inside = λ k d l. omega (arith, below-In n (get_or (items_where_true bits places) k d) (where-In bits places (at-In (items_where_true bits places) k d l)), full);
+      rises = where-rises bits places (increasing-range 0 n);
       some = where-some bits places one (sym (length-range_with_len 0 n));
       same = ap (items_where_true bits) (boxed-is sizes some)
           ∙ (where-map (tuple_at (strides_of sizes)) bits (range_with_len 0 (volume sizes)) ∙ ap (λ (m : ℕ). map (tuple_at (strides_of sizes)) (items_where_true bits (range_with_len 0 m))) (sym full));

@@ -2,20 +2,15 @@
 use Rattle.std.proofs.Common.{◌≡◌, ◌⊎◌, inl, inr, ℕ, zero, suc, ◌+◌, ◌-◌, ◌*◌, ◌/◌, ◌%◌, ◌<◌, ◌≤◌, List, [], ◌∷◌, ◌++◌, Bool, true, false, cond, drop, take, length, get_or, sum, refl, ap, sym, ◌∙◌, arith}
 use Rattle.std.proofs.Math.Nat.{mul-le-mul_right}
 use Rattle.std.proofs.Math.Seq.{drop-cons}
-use Rattle.std.proofs.lemmas.List.{take_more}
+use Rattle.std.proofs.lemmas.List.{take_more, drop_all}
 use Rattle.std.proofs.lemmas.List.Sums.{sum_by-cons}
 use Rattle.std.proofs.lemmas.Bool.{eq-eqb, ne_eqb, false≢true}
 use Rattle.array_values.specs.Bits.{volume}
 use Rattle.tuple_spaces.specs.Tuples.{is_odd}
-use Rattle.tuple_spaces.proofs.TorusFacets.{dim-cons, odd-is}
-use Rattle.voxel_spaces.specs.Places.{strides_of, tuple_at, dim_at, voxel_place, face_places, facets_from}
+use Rattle.tuple_spaces.proofs.CallerLemmas.{dim-cons, odd-is}
+use Rattle.voxel_spaces.specs.Places.{dim_at, voxel_place, face_places, facets_from}
+use Rattle.voxel_spaces.specs.BoxTuples.{strides_of, tuple_at}
 use Rattle.voxel_spaces.proofs.PlacesInBoxes.{Some, all-head, all-tail}
-
-pub drop-end : (xs : List ℕ) (n : ℕ) → length xs ≤ n → drop n xs ≡ []
-drop-end [] zero h = refl
-drop-end [] (suc n) h = refl
-drop-end (x ∷ xs) zero h = absurd (omega arith)
-drop-end (x ∷ xs) (suc n) h = drop-end xs n (omega arith)
 
 drop-at : (xs : List ℕ) (i : ℕ) → i < length xs → drop i xs ≡ get_or xs i 0 ∷ drop (i + 1) xs
 drop-at xs i l = drop-cons xs i 0 l ∙ ap (λ (n : ℕ). get_or xs i 0 ∷ drop n xs) (let e : suc i ≡ i + 1 = omega arith in e)
@@ -41,7 +36,7 @@ voxel_place-at sides strides i rest l m =
     ap (λ (xs : List ℕ). voxel_place xs (drop i strides) rest) (drop-at sides i l) ∙ ap (λ (xs : List ℕ). voxel_place (get_or sides i 0 ∷ drop (i + 1) sides) xs rest) (drop-at strides i m)
 
 pub voxel_place-end : (sides strides : List ℕ) (i rest : ℕ) → length sides ≤ i → voxel_place (drop i sides) (drop i strides) rest ≡ 0
-voxel_place-end sides strides i rest l = ap (λ (xs : List ℕ). voxel_place xs (drop i strides) rest) (drop-end sides i l)
+voxel_place-end sides strides i rest l = ap (λ (xs : List ℕ). voxel_place xs (drop i strides) rest) (drop_all i sides l)
 
 pub sum-at : (ss : List ℕ) (i : ℕ) → i < length ss → sum (drop i ss) ≡ get_or ss i 0 + sum (drop (i + 1) ss)
 sum-at ss i l = ap sum (drop-at ss i l) ∙ sum_by-cons (λ (x : ℕ). x) (get_or ss i 0) (drop (i + 1) ss)
@@ -51,7 +46,7 @@ pub face_places-at : (ss : List ℕ) (i p : ℕ) → i < length ss
 face_places-at ss i p l = ap (λ (xs : List ℕ). face_places xs p) (drop-at ss i l)
 
 pub face_places-end : (ss : List ℕ) (i p : ℕ) → length ss ≤ i → face_places (drop i ss) p ≡ p ∷ []
-face_places-end ss i p l = ap (λ (xs : List ℕ). face_places xs p) (drop-end ss i l)
+face_places-end ss i p l = ap (λ (xs : List ℕ). face_places xs p) (drop_all i ss l)
 
 odd-rest : (c : ℕ) → cond (is_odd c) 1 0 ≡ c % 2
 odd-rest c = by_test (is_odd c) refl
@@ -71,7 +66,7 @@ dim-at ss i rest l =
     ∙ (dim-cons (rest / get_or ss i 0) (tuple_at (drop (i + 1) ss) (rest % get_or ss i 0)) ∙ ap (λ (n : ℕ). n + dim_at (drop (i + 1) ss) (rest % get_or ss i 0)) (odd-rest (rest / get_or ss i 0)))
 
 pub dim-end : (ss : List ℕ) (i rest : ℕ) → length ss ≤ i → dim_at (drop i ss) rest ≡ 0
-dim-end ss i rest l = ap (λ (xs : List ℕ). dim_at xs rest) (drop-end ss i l)
+dim-end ss i rest l = ap (λ (xs : List ℕ). dim_at xs rest) (drop_all i ss l)
 
 pub facets_from-odd : (ss : List ℕ) (i p rest : ℕ) → i < length ss → rest / get_or ss i 0 % 2 ≡ 1
     → facets_from (drop i ss) p rest ≡ (p - get_or ss i 0) ∷ (p + get_or ss i 0) ∷ facets_from (drop (i + 1) ss) p (rest % get_or ss i 0)
@@ -88,7 +83,7 @@ facets_from-even ss i p rest l ne =
     ∙ ap (λ (b : Bool). cond b ((p - d) ∷ (p + d) ∷ []) [] ++ facets_from (drop (i + 1) ss) p (rest % d)) (ne_eqb (rest / d % 2) 1 ne)
 
 pub facets_from-end : (ss : List ℕ) (i p rest : ℕ) → length ss ≤ i → facets_from (drop i ss) p rest ≡ []
-facets_from-end ss i p rest l = ap (λ (xs : List ℕ). facets_from xs p rest) (drop-end ss i l)
+facets_from-end ss i p rest l = ap (λ (xs : List ℕ). facets_from xs p rest) (drop_all i ss l)
 
 pub length-strides : (ls : List ℕ) → length (strides_of ls) ≡ length ls
 length-strides [] = refl

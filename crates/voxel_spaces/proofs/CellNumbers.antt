@@ -1,42 +1,27 @@
 -- The numbers of the facets of a cell.
-use Rattle.std.proofs.Common.{◌≡◌, inl, inr, ℕ, zero, suc, ◌+◌, ◌-◌, ◌<◌, ◌≤◌, List, [], ◌∷◌, Bool, true, false, cond, ◌||◌, ◌&&◌, eqb, nat_lt, filter, map, length, get_or, take, set, Contains, refl, ap, sym, ◌∙◌, subst, arith}
+use Rattle.std.proofs.Common.{◌≡◌, inl, inr, ℕ, zero, suc, ◌+◌, ◌-◌, ◌<◌, ◌≤◌, List, [], ◌∷◌, Bool, true, false, cond, ◌&&◌, eqb, nat_lt, filter, map, length, get_or, take, set, Contains, refl, ap, sym, ◌∙◌, subst, arith}
 use Rattle.std.specs.List.{list_any, All}
 use Rattle.std.specs.List.Sorted.{IsStrictlyIncreasing}
-use Rattle.std.proofs.lemmas.Bool.{eq-eqb, cases_lt, ltb-true, lt-ltb, false_from_ne_true}
+use Rattle.std.proofs.lemmas.Bool.{eq-eqb, ltb-true, lt-ltb, false_from_ne_true}
 use Rattle.std.proofs.lemmas.Bool.Decides.{eqb_tells}
 use Rattle.std.proofs.lemmas.List.{get_or-map, length-map, length-append, take_more, get_or-set_same, get_or-set_other}
 use Rattle.std.proofs.lemmas.List.Elements.{filter-append}
-use Rattle.std.proofs.lemmas.List.Kept.{IsStrictlyIncreasing-filter, AllPairs-from_increasing}
+use Rattle.std.proofs.lemmas.List.Kept.{IsStrictlyIncreasing-filter}
 use Rattle.face_poset.specs.Words.{upto, holds}
 use Rattle.face_poset.specs.Poset.{IsCell}
-use Rattle.number_lists.proofs.CallerLemmas.{same_increasing, increasing-upto, increasing_head, increasing_tail, Contains-holds, holds-Contains, In-filter, In-inside, filter-In, any-In, any-some, holds-In, In-holds, In-at, at-In, same_bool, In-upto, upto-In}
-use Rattle.number_lists.specs.Members.{In, here}
+use Rattle.number_lists.proofs.CallerLemmas.{same_increasing, increasing-upto, increasing_head, increasing_tail, Contains-holds, holds-Contains, In-filter, In-inside, filter-In, any-In, any-some, holds-In, In-holds, In-at, at-In, In-upto, upto-In, In-map, map-In, filter-map, list_any-map, increasing-once}
+use Rattle.std.specs.Cmp.{both_ways}
+use Rattle.number_lists.specs.Members.{In}
 use Rattle.array_values.specs.Bits.{volume}
 use Rattle.tuple_spaces.specs.Tuples.{same, dim_of, cells_in, numbers_in}
-use Rattle.tuple_spaces.proofs.TorusNumbers.{In-map, map-In}
-use Rattle.tuple_spaces.proofs.Triples.{filter_map, same-eq, eq-same}
+use Rattle.tuple_spaces.proofs.CallerLemmas.{none_in, same-eq, eq-same}
 use Rattle.tuple_spaces.specs.Voxels.{facets}
-use Rattle.voxel_spaces.specs.Places.{strides_of, tuple_at, dim_at, facet_places, number_among}
+use Rattle.voxel_spaces.specs.Places.{dim_at, facet_places, number_among}
+use Rattle.voxel_spaces.specs.BoxTuples.{strides_of, tuple_at}
 use Rattle.voxel_spaces.proofs.PlacesInBoxes.{Some, tuple_once}
 use Rattle.voxel_spaces.proofs.FacetPlaces.{OddBox, IsFacetOf, are_facets, facets-are, some_facet}
 
 -- ---- lists
-
-any_map : {A : Type 0} (p : A → Bool) (f : ℕ → A) (xs : List ℕ) → list_any p (map f xs) ≡ list_any (λ k. p (f k)) xs
-any_map p f [] = refl
-any_map p f (x ∷ xs) = ap (λ (b : Bool). p (f x) || b) (any_map p f xs)
-
--- an increasing list has a number at one place only
-place_once : (xs : List ℕ) (i j : ℕ) → IsStrictlyIncreasing xs → i < length xs → j < length xs → get_or xs i 0 ≡ get_or xs j 0 → i ≡ j
-place_once xs i j h l m e =
-    elim (cases_lt i j) [
-      | inl q ↦ absurd (omega (arith, AllPairs-from_increasing xs h i j 0 q m, e))
-      | inr q ↦
-          elim (cases_lt j i) [
-            | inl r ↦ absurd (omega (arith, AllPairs-from_increasing xs h j i 0 r l, e))
-            | inr r ↦ omega (arith, q, r)
-          ]
-    ]
 
 none_below : (test : ℕ → Bool) (x : ℕ) (xs : List ℕ) → All (λ y. x < y) xs → filter (λ q. nat_lt q x && test q) xs ≡ []
 none_below test x [] h = refl
@@ -117,7 +102,7 @@ module _ (ls : List ℕ) (P : List ℕ) (some : Some ls) (inc : IsStrictlyIncrea
   cells d = cells_in (map (tuple_at (strides_of ls)) P) d
 
   cells-are : (d : ℕ) → cells d ≡ map T (spots d)
-  cells-are d = filter_map (λ t. eqb (dim_of t) d) T P
+  cells-are d = filter-map (λ t. eqb (dim_of t) d) T P
 
   pub length-cells : (d : ℕ) → length (cells_in (map (tuple_at (strides_of ls)) P) d) ≡ length (filter (λ p. eqb (dim_at (strides_of ls) p) d) P)
   length-cells d = ap length (cells-are d) ∙ length-map (spots d) T
@@ -147,7 +132,7 @@ module _ (ls : List ℕ) (P : List ℕ) (some : Some ls) (inc : IsStrictlyIncrea
       let m : n - 1 < length (spots d) = omega (arith, one, most, length-cells d) in
       let there_is : In (get_or (spots d) (n - 1) 0) P = In-inside (λ p. eqb (D p) d) P (at-In (spots d) (n - 1) 0 m) in
       let same_place : get_or (spots d) (n - 1) 0 ≡ k = tuple_once ls (get_or (spots d) (n - 1) 0) k some (low (get_or (spots d) (n - 1) 0) there_is) (low k i) (sym (cell-at d (n - 1) m) ∙ t) in
-      let j : n - 1 ≡ number_among (strides_of ls) P k - 1 = place_once (spots d) (n - 1) (number_among (strides_of ls) P k - 1) (IsStrictlyIncreasing-filter (λ p. eqb (D p) d) P inc) m (omega (arith, r.0, r.1, length-cells d)) (same_place ∙ sym r.2) in
+      let j : n - 1 ≡ number_among (strides_of ls) P k - 1 = increasing-once (spots d) (n - 1) (number_among (strides_of ls) P k - 1) (IsStrictlyIncreasing-filter (λ p. eqb (D p) d) P inc) m (omega (arith, r.0, r.1, length-cells d)) (same_place ∙ sym r.2) in
       omega (arith, j, one, r.0)
 
   -- ---- the facets of a cell
@@ -170,7 +155,7 @@ module _ (ls : List ℕ) (P : List ℕ) (some : Some ls) (inc : IsStrictlyIncrea
 
     has-places : (n : ℕ) → has n ≡ list_any (λ k. same (get_or below (n - 1) []) (T k)) (facet_places (strides_of ls) place)
     has-places n =
-        ap (list_any (same (get_or below (n - 1) []))) (sym (facets-are ls place some odd (low place inside))) ∙ any_map (same (get_or below (n - 1) [])) T (facet_places (strides_of ls) place)
+        ap (list_any (same (get_or below (n - 1) []))) (sym (facets-are ls place some odd (low place inside))) ∙ list_any-map (same (get_or below (n - 1) [])) T (facet_places (strides_of ls) place)
 
     to_facet : (n : ℕ) → In n found → In n facets_at
     to_facet n i =
@@ -201,17 +186,13 @@ module _ (ls : List ℕ) (P : List ℕ) (some : Some ls) (inc : IsStrictlyIncrea
         → sorted ≡ numbers_in (cells_in (map (tuple_at (strides_of ls)) P) (dim_at (strides_of ls) place - 1)) (facets (tuple_at (strides_of ls) place))
     sorted_facets listed sorted e r keeps adds_none =
         same_increasing sorted facets_at r rises
-        (λ n. same_bool (holds sorted n) (holds facets_at n)
+        (λ n. both_ways (holds sorted n) (holds facets_at n)
         (λ h. In-holds (to_facet n (subst (In n) e (holds-In listed (Contains-holds listed n (adds_none n (holds-Contains sorted n h)))))))
         (λ h. Contains-holds sorted n (keeps n (holds-Contains listed n (In-holds (subst (In n) (sym e) (from_facet n (holds-In facets_at h))))))))
 
     -- a vertex has no facet
     pub no_facets : dim_at (strides_of ls) place ≡ 0 → numbers_in (cells_in (map (tuple_at (strides_of ls)) P) (dim_at (strides_of ls) place - 1)) (facets (tuple_at (strides_of ls) place)) ≡ []
     no_facets e = none_in facets_at (λ n i. let r = map-In (number_among (strides_of ls) P) (facet_places (strides_of ls) place) (from_facet n i) in omega (arith, (is_facet r.0 r.1).dim, e))
-      where
-        none_in : (xs : List ℕ) → ((n : ℕ) → In n xs → ⊥) → xs ≡ []
-        none_in [] h = refl
-        none_in (x ∷ xs) h = absurd (h x here)
 
     pub cell_facets : 1 ≤ dim_at (strides_of ls) place
         → IsCell (length (cells_in (map (tuple_at (strides_of ls)) P) (dim_at (strides_of ls) place - 1))) (numbers_in (cells_in (map (tuple_at (strides_of ls)) P) (dim_at (strides_of ls) place - 1)) (facets (tuple_at (strides_of ls) place)))

@@ -7,17 +7,18 @@ use Rattle.std.proofs.lemmas.List.{length-map}
 use Rattle.std.proofs.lemmas.List.Kept.{IsStrictlyIncreasing-filter}
 use Rattle.face_poset.specs.Words.{holds}
 use Rattle.number_lists.specs.Members.{In}
-use Rattle.number_lists.proofs.CallerLemmas.{In-at, In-filter, filter-In, In-holds, holds-In}
+use Rattle.number_lists.proofs.CallerLemmas.{In-at, In-filter, filter-In, In-holds, holds-In, Contains-In, In-Contains, increasing-range}
 use Rattle.array_values.specs.declared.fault.ArrayFault.TheVariants.{TooManyCells}
 use Rattle.array_values.specs.Bits.{volume}
 use Rattle.tuple_spaces.specs.Tuples.{space_of}
 use Rattle.tuple_spaces.specs.Voxels.{facets, limits_of, cells_of, limited, voxel_space}
-use Rattle.voxel_spaces.specs.Places.{strides_of, tuple_at, voxel_place, face_places, facet_places, count_at, IsClosed}
+use Rattle.voxel_spaces.specs.Places.{voxel_place, face_places, count_at, IsClosed}
+use Rattle.voxel_spaces.specs.BoxTuples.{strides_of, tuple_at}
 use Rattle.voxel_spaces.proofs.PlacesInBoxes.{Some}
 use Rattle.voxel_spaces.proofs.FacetPlaces.{odd_box, some_box, some_strides}
-use Rattle.voxel_spaces.proofs.Finding.{to_In, from_In}
 use Rattle.voxel_spaces.proofs.BoxLevels.{length-strides}
-use Rattle.voxel_spaces.proofs.ClosedPlaces.{flat-cell, found-cell, closed-cells, cells-at, some-vertex, many-cells, limits-few, strides-le, voxel_place-below, increasing-range, range-In}
+use Rattle.voxel_spaces.proofs.ClosedPlaces.{flat-cell, found-cell, closed-cells, cells-at, some-vertex, many-cells, limits-few, strides-le, voxel_place-below}
+use Rattle.tuple_spaces.proofs.CallerLemmas.{In-below}
 
 -- ---- the box
 
@@ -68,8 +69,8 @@ module _ (sizes I : List ℕ) (s : Some sizes) (l : length sizes ≤ 3) (h : vol
           some = some_box sizes;
           odd = odd_box sizes;
           few = limits-few sizes s l h;
-          below = λ p i. (found-cell sizes I P s within inc keeps adds_none p (to_In P p i)).below;
-          facets_there = λ p i k j. from_In P k (closed-cells sizes I P s within inc keeps adds_none p (to_In P p i) k (to_In (facet_places (strides_of (limits_of sizes)) p) k j));
+          below = λ p i. (found-cell sizes I P s within inc keeps adds_none p (Contains-In i)).below;
+          facets_there = λ p i k j. In-Contains (closed-cells sizes I P s within inc keeps adds_none p (Contains-In i) k (Contains-In j));
         };
         cells = cells-at sizes I P s within inc keeps adds_none;
         vertex = some-vertex sizes I P s within inc keeps adds_none;
@@ -89,9 +90,9 @@ module _ (sizes I : List ℕ) (s : Some sizes) (l : length sizes ≤ 3) (h : vol
       let n : ℕ = volume (limits_of sizes) in
       let P : List ℕ = filter (holds F) (range_with_len 0 n) in (
         P,
-        placed_here P (IsStrictlyIncreasing-filter (holds F) (range_with_len 0 n) (increasing-range n))
-            (λ k c. let i : In k F = to_In F k c in from_In P k (In-filter (holds F) (range-In n k (flat-cell sizes I s within k i).below) (In-holds i)))
-            (λ k c. from_In F k (holds-In F (filter-In (holds F) (range_with_len 0 n) (to_In P k c)))),
+        placed_here P (IsStrictlyIncreasing-filter (holds F) (range_with_len 0 n) (increasing-range 0 n))
+            (λ k c. let i : In k F = Contains-In c in In-Contains (In-filter (holds F) (In-below n k (flat-cell sizes I s within k i).below) (In-holds i)))
+            (λ k c. In-Contains (holds-In F (filter-In (holds F) (range_with_len 0 n) (Contains-In c)))),
       )
 
   space-few : (cells : List (List ℕ)) → length cells ≤ 60000 → limited cells ≡ Ok (space_of facets cells)

@@ -8,27 +8,21 @@ use Rattle.std.proofs.lemmas.Nat.{div-add-mod', mod_below}
 use Rattle.std.proofs.lemmas.List.{get_or-map, length-map}
 use Rattle.std.proofs.lemmas.List.Folds.{list_any-append}
 use Rattle.std.proofs.lemmas.List.Kept.{IsStrictlyIncreasing-filter}
-use Rattle.std.proofs.lemmas.List.FromFn.{get_or-range_with_len, length-range_with_len}
 use Rattle.face_poset.specs.Words.{holds}
-use Rattle.number_lists.proofs.CallerLemmas.{length-filter-le, same_increasing, Contains-holds, holds-Contains, In-filter, In-inside, filter-In, holds-In, In-holds, In-at, at-In, In-left, In-right, append-In, same_bool}
+use Rattle.number_lists.proofs.CallerLemmas.{length-filter-le, same_increasing, Contains-holds, holds-Contains, In-filter, In-inside, filter-In, holds-In, In-holds, In-at, at-In, map-In, In-flat_map, flat_map-In, filter-map, increasing-range}
+use Rattle.std.specs.Cmp.{both_ways}
 use Rattle.number_lists.specs.Members.{In, here, there}
 use Rattle.array_values.specs.Bits.{volume}
 use Rattle.tuple_spaces.specs.Tuples.{same, dim_of}
-use Rattle.tuple_spaces.proofs.TorusFacets.{dim-cons, even-is}
-use Rattle.tuple_spaces.proofs.TorusNumbers.{map-In}
-use Rattle.tuple_spaces.proofs.Triples.{filter_map, same-eq, eq-same}
+use Rattle.tuple_spaces.proofs.CallerLemmas.{dim-cons, even-is, same-eq, eq-same, In-below, below-In}
 use Rattle.tuple_spaces.specs.Voxels.{voxel, faces, limits_of, cells_of}
-use Rattle.voxel_spaces.specs.Places.{strides_of, tuple_at, dim_at, voxel_place, face_places, facet_places, count_at}
+use Rattle.voxel_spaces.specs.Places.{dim_at, voxel_place, face_places, facet_places, count_at}
+use Rattle.voxel_spaces.specs.BoxTuples.{strides_of, tuple_at}
 use Rattle.voxel_spaces.proofs.PlacesInBoxes.{Some, all-head, all-tail, IsWithin, place_of, some-volume, place-below, tuple-place, place-tuple, tuple-within, boxed-is}
 use Rattle.voxel_spaces.proofs.FacePlaces.{IsInner, IsNear, IsOdd, voxel-inner, voxel-odd, faces-are, voxel_place-is, near-any, any-near}
 use Rattle.voxel_spaces.proofs.FacetPlaces.{IsFacetOf, are_facets, odd_box, some_box}
 
 -- ---- lists
-
-pub increasing-range : (n : ℕ) → IsStrictlyIncreasing (range_with_len 0 n)
-increasing-range n k l =
-    let m : k + 1 < n = omega (arith, l, length-range_with_len 0 n) in
-    omega (arith, get_or-range_with_len 0 n k 0 (omega arith), get_or-range_with_len 0 n (k + 1) 0 m)
 
 -- a tuple whose image this is
 map-any : (f : List ℕ → ℕ) (n : ℕ) (us : List (List ℕ)) → In n (map f us) → (t : List ℕ) × (n ≡ f t) × (list_any (same t) us ≡ true)
@@ -44,19 +38,6 @@ any-map f t (u ∷ us) h =
       | inr q ↦ there (any-map f t us q)
     ]
 
-pub In-flat : (g : ℕ → List ℕ) {n : ℕ} (xs : List ℕ) → In n (flat_map g xs) → (i : ℕ) × In i xs × In n (g i)
-In-flat g [] h = elim h [ ]
-In-flat g (x ∷ xs) h =
-    elim (append-In (g x) (flat_map g xs) h) [
-      | inl q ↦ (x, here, q)
-      | inr q ↦ let r = In-flat g xs q in (r.0, there r.1, r.2)
-    ]
-
-pub flat-In : (g : ℕ → List ℕ) (i n : ℕ) (xs : List ℕ) → In i xs → In n (g i) → In n (flat_map g xs)
-flat-In g i n [] j h = elim j [ ]
-flat-In g i n (x ∷ xs) here h = In-left (flat_map g xs) h
-flat-In g i n (x ∷ xs) (there j) h = In-right (g x) (flat-In g i n xs j h)
-
 any-flat : (p : List ℕ → Bool) (h : List ℕ → List (List ℕ)) (g : ℕ → List ℕ) (xs : List ℕ) → list_any p (flat_map h (map g xs)) ≡ true → (i : ℕ) × In i xs × (list_any p (h (g i)) ≡ true)
 any-flat p h g [] e = absurd (false≢true e)
 any-flat p h g (x ∷ xs) e =
@@ -69,15 +50,6 @@ flat-any : (p : List ℕ → Bool) (h : List ℕ → List (List ℕ)) (g : ℕ �
 flat-any p h g i [] j e = elim j [ ]
 flat-any p h g i (x ∷ xs) here e = list_any-append p (h (g x)) (flat_map h (map g xs)) ∙ or_left (list_any p (h (g x))) (list_any p (flat_map h (map g xs))) e
 flat-any p h g i (x ∷ xs) (there j) e = list_any-append p (h (g x)) (flat_map h (map g xs)) ∙ or_right (list_any p (h (g x))) (list_any p (flat_map h (map g xs))) (flat-any p h g i xs j e)
-
-pub range-In : (n m : ℕ) → m < n → In m (range_with_len 0 n)
-range-In n m l = subst (λ (k : ℕ). In k (range_with_len 0 n)) (get_or-range_with_len 0 n m 0 l ∙ (let e : 0 + m ≡ m = omega arith in e)) (at-In (range_with_len 0 n) m 0 (omega (arith, length-range_with_len 0 n)))
-
-pub In-range : (n m : ℕ) → In m (range_with_len 0 n) → m < n
-In-range n m i =
-    let r = In-at i in
-    let l : r.0 < n = omega (arith, r.1, length-range_with_len 0 n) in
-    omega (arith, r.2, get_or-range_with_len 0 n r.0 0 l)
 
 -- ---- tuples near a voxel
 
@@ -164,7 +136,7 @@ module _ (sizes I : List ℕ) (s : Some sizes) (inside : (i : ℕ) → In i I �
   flat-cell n i =
       let L : List ℕ = limits_of sizes in
       let T : ℕ → List ℕ = tuple_at (strides_of L) in
-      let w = In-flat (λ i. face_places (strides_of (limits_of sizes)) (voxel_place (strides_of sizes) (strides_of (limits_of sizes)) i)) I i in
+      let w = flat_map-In (λ i. face_places (strides_of (limits_of sizes)) (voxel_place (strides_of sizes) (strides_of (limits_of sizes)) i)) I i in
       let j : ℕ = w.0 in
       let v : List ℕ = voxel (tuple_at (strides_of sizes) j) in
       let r = map-any (place_of L) n (faces v) (subst (In n) (places-are j w.1) w.2) in
@@ -203,7 +175,7 @@ module _ (sizes I P : List ℕ) (s : Some sizes) (inside : (i : ℕ) → In i I 
   cell-found n i l j close =
       let at : place_of L (T n) ≡ n = place-tuple L n (some_box sizes) l in
       let a : In n (map (place_of L) (faces (vox i))) = subst (λ (k : ℕ). In k (map (place_of L) (faces (vox i)))) at (any-map (place_of L) (T n) (faces (vox i)) (near-any (vox i) (T n) close)) in
-      let b : In n (flat_map near_places I) = flat-In near_places i n I j (subst (In n) (sym (places-are sizes I s inside i j)) a) in
+      let b : In n (flat_map near_places I) = In-flat_map near_places j (subst (In n) (sym (places-are sizes I s inside i j)) a) in
       holds-In P (Contains-holds P n (keeps n (holds-Contains (flat_map near_places I) n (In-holds b))))
 
   pub closed-cells : (p : ℕ) → In p P → (k : ℕ) → In k (facet_places (strides_of (limits_of sizes)) p) → In k P
@@ -218,18 +190,18 @@ module _ (sizes I P : List ℕ) (s : Some sizes) (inside : (i : ℕ) → In i I 
   passing-is : P ≡ filter (λ n. test (T n)) (range_with_len 0 (volume L))
   passing-is =
       let Q : List ℕ = filter (λ n. test (T n)) (range_with_len 0 (volume L)) in
-      same_increasing P Q inc (IsStrictlyIncreasing-filter (λ n. test (T n)) (range_with_len 0 (volume L)) (increasing-range (volume L)))
-      (λ n. same_bool (holds P n) (holds Q n)
+      same_increasing P Q inc (IsStrictlyIncreasing-filter (λ n. test (T n)) (range_with_len 0 (volume L)) (increasing-range 0 (volume L)))
+      (λ n. both_ways (holds P n) (holds Q n)
       (λ h. let c : IsCellAt sizes I s inside n = found-cell n (holds-In P h) in
-      In-holds (In-filter (λ m. test (T m)) (range-In (volume L) n c.below) (flat-any (same (T n)) (λ i. faces (voxel i)) (tuple_at (strides_of sizes)) c.index I c.there_is (near-any (vox c.index) (T n) c.near))))
+      In-holds (In-filter (λ m. test (T m)) (In-below (volume L) n c.below) (flat-any (same (T n)) (λ i. faces (voxel i)) (tuple_at (strides_of sizes)) c.index I c.there_is (near-any (vox c.index) (T n) c.near))))
       (λ h. let i : In n Q = holds-In Q h in
       let w = any-flat (same (T n)) (λ i. faces (voxel i)) (tuple_at (strides_of sizes)) I (filter-In (λ m. test (T m)) (range_with_len 0 (volume L)) i) in
-      In-holds (cell-found n w.0 (In-range (volume L) n (In-inside (λ m. test (T m)) (range_with_len 0 (volume L)) i)) w.1 (any-near (vox w.0) (T n) (voxel-odd (tuple_at (strides_of sizes) w.0)) w.2))))
+      In-holds (cell-found n w.0 (below-In (volume L) n (In-inside (λ m. test (T m)) (range_with_len 0 (volume L)) i)) w.1 (any-near (vox w.0) (T n) (voxel-odd (tuple_at (strides_of sizes) w.0)) w.2))))
 
   -- the cells stand at the places
   pub cells-at : cells_of sizes (map (tuple_at (strides_of sizes)) I) ≡ map (tuple_at (strides_of (limits_of sizes))) P
   cells-at =
-      ap (filter test) (boxed-is L (some_box sizes)) ∙ (filter_map test T (range_with_len 0 (volume L)) ∙ ap (map T) (sym passing-is))
+      ap (filter test) (boxed-is L (some_box sizes)) ∙ (filter-map test T (range_with_len 0 (volume L)) ∙ ap (map T) (sym passing-is))
 
   -- there is a vertex
   pub some-vertex : 1 ≤ length I → 1 ≤ count_at (strides_of (limits_of sizes)) P 0
@@ -262,7 +234,7 @@ module _ (sizes I P : List ℕ) (s : Some sizes) (inside : (i : ℕ) → In i I 
       let e : n ≡ place_of L v = w.2 ∙ voxel_place-is sizes w.0 in
       cell-found n w.0 (subst (λ (k : ℕ). k < volume L) (sym e) (place-below L v within)) w.1 (subst (IsNear v) (sym (ap T e ∙ tuple-place L v within)) (near-self v)) in
       let same_list : C ≡ filter (holds C) P = same_increasing C (filter (holds C) P) up (IsStrictlyIncreasing-filter (holds C) P inc)
-      (λ n. same_bool (holds C n) (holds (filter (holds C) P) n) (λ h. In-holds (In-filter (holds C) (C-in n (holds-In C h)) h)) (λ h. filter-In (holds C) P (holds-In (filter (holds C) P) h))) in
+      (λ n. both_ways (holds C n) (holds (filter (holds C) P) n) (λ h. In-holds (In-filter (holds C) (C-in n (holds-In C h)) h)) (λ h. filter-In (holds C) P (holds-In (filter (holds C) P) h))) in
       omega (arith, length-map I f, ap (λ (xs : List ℕ). length xs) same_list, length-filter-le (holds C) P)
 
 -- ---- how large the box is

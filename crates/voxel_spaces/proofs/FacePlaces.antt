@@ -8,9 +8,10 @@ use Rattle.std.proofs.lemmas.Bool.{eq-eqb, eqb-true, false≢true, and_from, or_
 use Rattle.number_lists.proofs.CallerLemmas.{and-left, and-right}
 use Rattle.array_values.specs.Bits.{volume}
 use Rattle.tuple_spaces.specs.Tuples.{same}
-use Rattle.tuple_spaces.proofs.Triples.{map_twice}
+use Rattle.std.proofs.lemmas.Simd.{map-map}
 use Rattle.tuple_spaces.specs.Voxels.{faces, voxel, limits_of}
-use Rattle.voxel_spaces.specs.Places.{strides_of, tuple_at, voxel_place, face_places}
+use Rattle.voxel_spaces.specs.Places.{voxel_place, face_places}
+use Rattle.voxel_spaces.specs.BoxTuples.{strides_of, tuple_at}
 use Rattle.voxel_spaces.proofs.PlacesInBoxes.{IsWithin, place_of}
 
 -- ---- places
@@ -57,7 +58,7 @@ shift (s ∷ ss) base q h =
 row : (l d : ℕ) (ls cs : List ℕ) → IsInner ls cs → face_places (strides_of ls) (place_of ls cs) ≡ map (place_of ls) (faces cs) → face_places (strides_of ls) (d * volume ls + place_of ls cs) ≡ map (place_of (l ∷ ls)) (map (λ t. d ∷ t) (faces cs))
 row l d ls cs h e =
     shift (strides_of ls) (d * volume ls) (place_of ls cs) (sum-low ls cs h)
-    ∙ (ap (map (λ x. d * volume ls + x)) e ∙ (map_twice (λ x. d * volume ls + x) (place_of ls) (faces cs) ∙ sym (map_twice (place_of (l ∷ ls)) (λ t. d ∷ t) (faces cs))))
+    ∙ (ap (map (λ x. d * volume ls + x)) e ∙ (map-map (λ x. d * volume ls + x) (place_of ls) (faces cs) ∙ sym (map-map (place_of (l ∷ ls)) (λ t. d ∷ t) (faces cs))))
 
 pub faces-are : (limits v : List ℕ) → IsInner limits v → face_places (strides_of limits) (place_of limits v) ≡ map (place_of limits) (faces v)
 faces-are [] [] h = refl

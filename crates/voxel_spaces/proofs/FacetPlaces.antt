@@ -1,18 +1,18 @@
 -- The places of the facets of a cell.
-use Rattle.std.proofs.Common.{◌≡◌, ◌⊎◌, inl, inr, ℕ, zero, suc, ◌+◌, ◌-◌, ◌*◌, ◌/◌, ◌%◌, ◌<◌, ◌≤◌, List, [], ◌∷◌, ◌++◌, Bool, true, false, cond, map, refl, ap, sym, ◌∙◌, arith, subst}
+use Rattle.std.proofs.Common.{◌≡◌, inl, inr, ℕ, zero, suc, ◌+◌, ◌-◌, ◌*◌, ◌/◌, ◌%◌, ◌<◌, ◌≤◌, List, [], ◌∷◌, ◌++◌, Bool, true, false, cond, map, refl, ap, sym, ◌∙◌, arith, subst}
 use Rattle.std.specs.List.{All}
 use Rattle.std.proofs.Math.Nat.{mul_comm}
 use Rattle.std.proofs.lemmas.Nat.{div-add-mod', mod_below, div_below}
 use Rattle.std.proofs.lemmas.List.{map-append}
-use Rattle.number_lists.specs.Members.{In, here, there}
-use Rattle.number_lists.proofs.CallerLemmas.{append-In}
+use Rattle.number_lists.specs.Members.{In, here}
+use Rattle.number_lists.proofs.CallerLemmas.{append-In, In-map, map-In}
 use Rattle.array_values.specs.Bits.{volume}
 use Rattle.tuple_spaces.specs.Tuples.{is_odd, dim_of}
-use Rattle.tuple_spaces.proofs.TorusFacets.{dim-cons, odd-is, even-is}
-use Rattle.tuple_spaces.proofs.TorusNumbers.{In-map, map-In}
-use Rattle.tuple_spaces.proofs.Triples.{map_twice}
+use Rattle.tuple_spaces.proofs.CallerLemmas.{dim-cons, odd-is, even-is, even_dim, odd_dim, map_same, two_of}
+use Rattle.std.proofs.lemmas.Simd.{map-map}
 use Rattle.tuple_spaces.specs.Voxels.{facets, limits_of}
-use Rattle.voxel_spaces.specs.Places.{strides_of, tuple_at, dim_at, facets_from, facet_places}
+use Rattle.voxel_spaces.specs.Places.{dim_at, facets_from, facet_places}
+use Rattle.voxel_spaces.specs.BoxTuples.{strides_of, tuple_at}
 use Rattle.voxel_spaces.proofs.PlacesInBoxes.{Some, all-head, all-tail, some-volume, row-below, tuple-row}
 use Rattle.voxel_spaces.proofs.FacePlaces.{IsBeside, IsNear, IsOdd}
 
@@ -74,18 +74,6 @@ pub record IsFacetOf (ls : List ℕ) (p k : ℕ) : Type 0 where
   pub dim : dim_at (strides_of ls) k + 1 ≡ dim_at (strides_of ls) p
   pub near : (v : List ℕ) → IsOdd v → IsNear v (tuple_at (strides_of ls) p) → IsNear v (tuple_at (strides_of ls) k)
 
-in_pair : (b : Bool) (m n : ℕ) {k : ℕ} → In k (cond b (m ∷ n ∷ []) []) → (b ≡ true) × ((k ≡ m) ⊎ (k ≡ n))
-in_pair true m n here = (refl, inl refl)
-in_pair true m n (there here) = (refl, inr refl)
-in_pair true m n (there (there h)) = elim h [ ]
-in_pair false m n h = elim h [ ]
-
-odd_dim : (c : ℕ) (t : List ℕ) → is_odd c ≡ true → dim_of (c ∷ t) ≡ suc (dim_of t)
-odd_dim c t o = dim-cons c t ∙ (ap (λ (b : Bool). cond b 1 0 + dim_of t) o ∙ omega arith)
-
-even_dim : (c : ℕ) (t : List ℕ) → is_odd c ≡ false → dim_of (c ∷ t) ≡ dim_of t
-even_dim c t o = dim-cons c t ∙ (ap (λ (b : Bool). cond b 1 0 + dim_of t) o ∙ omega arith)
-
 -- another tuple that has an even coordinate in the place of an odd one
 moved : (l d k p : ℕ) (ls : List ℕ) → d < l → p % volume ls < volume ls → k ≡ d * volume ls + p % volume ls → is_odd (p / volume ls) ≡ true → d % 2 ≡ 0 → IsBeside (p / volume ls) d → IsFacetOf (l ∷ ls) p k
 moved l d k p ls low r e o even beside =
@@ -120,7 +108,7 @@ are_facets (l ∷ ls) p s odd h k i =
     let ol : l % 2 ≡ 1 = all-head (λ limit. limit % 2 ≡ 1) l ls odd in
     elim (append-In (cond (is_odd c) ((p - V) ∷ (p + V) ∷ []) []) (facets_from ss p (p % V)) i) [
       | inl q ↦
-          let w = in_pair (is_odd c) (p - V) (p + V) q in
+          let w = two_of (is_odd c) (p - V) (p + V) q in
           let oc : c % 2 ≡ 1 = odd-is c w.0 in
           elim w.1 [
             | inl a ↦ moved l (c - 1) k p ls (omega arith) r (back c V (p % V) p k (omega arith) e a) w.0 (omega arith) (inl (omega arith))
@@ -152,10 +140,6 @@ are_facets (l ∷ ls) p s odd h k i =
         closer c ce f [] odd h = absurd h
         closer c ce f (w ∷ ws) odd h = (subst (IsBeside w) (sym ce) h.0, f.near ws odd.1 h.1)
 
-map_same_In : {A : Type 0} (f g : ℕ → A) (xs : List ℕ) → ((k : ℕ) → In k xs → f k ≡ g k) → map f xs ≡ map g xs
-map_same_In f g [] h = refl
-map_same_In f g (x ∷ xs) h = ap (λ y. y ∷ map f xs) (h x here) ∙ ap (λ ys. g x ∷ ys) (map_same_In f g xs (λ k i. h k (there i)))
-
 -- the tuples of the facets
 pub facets-are : (ls : List ℕ) (p : ℕ) → Some ls → OddBox ls → p < volume ls → map (tuple_at (strides_of ls)) (facet_places (strides_of ls) p) ≡ facets (tuple_at (strides_of ls) p)
 facets-are [] p s odd h = refl
@@ -172,9 +156,9 @@ facets-are (l ∷ ls) p s odd h =
     let e : c * V + p % V ≡ p = div-add-mod' p V in
     let K : List ℕ = facet_places ss (p % V) in
     let tail : map T (facets_from ss p (p % V)) ≡ map (λ u. c ∷ u) (facets t) =
-    (ap (map T) (rest-shift p V ss (some_strides ls some)) ∙ (map_twice T (λ x. c * V + x) K
-    ∙ (map_same_In (λ x. T (c * V + x)) (λ x. c ∷ tuple_at ss x) K (λ k i. tuple-row c k ls (are_facets ls (p % V) some oddly r k i).below)
-    ∙ (sym (map_twice (λ u. c ∷ u) (tuple_at ss) K) ∙ ap (map (λ u. c ∷ u)) (facets-are ls (p % V) some oddly r))))) in
+    (ap (map T) (rest-shift p V ss (some_strides ls some)) ∙ (map-map T (λ x. c * V + x) K
+    ∙ (map_same (λ x. T (c * V + x)) (λ x. c ∷ tuple_at ss x) K (λ k i. tuple-row c k ls (are_facets ls (p % V) some oddly r k i).below)
+    ∙ (sym (map-map (λ u. c ∷ u) (tuple_at ss) K) ∙ ap (map (λ u. c ∷ u)) (facets-are ls (p % V) some oddly r))))) in
     map-append T (cond (is_odd c) ((p - V) ∷ (p + V) ∷ []) []) (facets_from ss p (p % V))
     ∙ (ap (λ (us : List (List ℕ)). us ++ map T (facets_from ss p (p % V))) (heads (is_odd c) (λ o. back c V (p % V) p (let oc : c % 2 ≡ 1 = odd-is c o in omega arith) e) r e refl)
     ∙ ap (λ (us : List (List ℕ)). cond (is_odd c) (((c - 1) ∷ t) ∷ ((c + 1) ∷ t) ∷ []) [] ++ us) tail)

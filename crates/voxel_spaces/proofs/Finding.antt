@@ -4,17 +4,10 @@ use Rattle.std.specs.List.Sorted.{IsStrictlyIncreasing}
 use Rattle.std.proofs.lemmas.Bool.{cases_lt}
 use Rattle.std.proofs.lemmas.List.{get_or-map}
 use Rattle.std.proofs.lemmas.List.Kept.{AllPairs-from_increasing}
-use Rattle.number_lists.proofs.CallerLemmas.{Contains-holds, holds-Contains, holds-In, In-holds, In-at}
-use Rattle.number_lists.specs.Members.{In}
-
-pub to_In : (xs : List ℕ) (x : ℕ) → Contains xs x → In x xs
-to_In xs x h = holds-In xs (Contains-holds xs x h)
-
-pub from_In : (xs : List ℕ) (x : ℕ) → In x xs → Contains xs x
-from_In xs x i = holds-Contains xs x (In-holds i)
+use Rattle.number_lists.proofs.CallerLemmas.{In-at, Contains-In}
 
 pub first_between : (P : List ℕ) (place : ℕ) → Contains P place → (w : ℕ) × (0 ≤ w) × (w < length P) × (get_or P w 0 ≡ place)
-first_between P place h = let r = In-at (to_In P place h) in (r.0, omega arith, r.1, r.2)
+first_between P place h = let r = In-at (Contains-In h) in (r.0, omega arith, r.1, r.2)
 
 pub upper_half : (P : List ℕ) (place low high middle : ℕ) → IsStrictlyIncreasing P → high ≤ length P → middle < high → get_or P middle 0 ≤ place
     → (w : ℕ) × (low ≤ w) × (w < high) × (get_or P w 0 ≡ place) → (w : ℕ) × (middle ≤ w) × (w < high) × (get_or P w 0 ≡ place)

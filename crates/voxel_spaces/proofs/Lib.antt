@@ -1,16 +1,16 @@
-pub mod PlacesInBoxes
-pub mod FacePlaces
-pub mod FacetPlaces
-pub mod BoxLevels
-pub mod CellNumbers
-pub mod SpaceStages
-pub mod ClosedPlaces
-pub mod Ones
-pub mod Finding
-pub mod Adding
-pub mod CellPlaces
-pub mod ArrayVoxels
-pub mod CubicalExamples
-pub mod AnyRow
-pub mod StayingVoxels
-pub mod ArcExamples
+mod PlacesInBoxes
+mod FacePlaces
+mod FacetPlaces
+mod BoxLevels
+mod CellNumbers
+mod SpaceStages
+mod ClosedPlaces
+mod Ones
+mod Finding
+mod Adding
+mod CellPlaces
+mod ArrayVoxels
+mod CubicalExamples
+mod AnyRow
+mod StayingVoxels
+mod ArcExamples

@@ -1,19 +1,13 @@
 -- The places of the bits that are 1.
-use Rattle.std.proofs.Common.{◌≡◌, ℕ, zero, suc, ◌+◌, ◌<◌, ◌≤◌, List, [], ◌∷◌, ◌++◌, Bool, true, false, cond, map, take, length, get_or, refl, ap, sym, ◌∙◌, subst, arith}
+use Rattle.std.proofs.Common.{◌≡◌, ℕ, zero, suc, ◌+◌, ◌<◌, ◌≤◌, List, [], ◌∷◌, ◌++◌, Bool, true, false, cond, take, length, get_or, refl, ap, sym, ◌∙◌, subst, arith}
 use Rattle.std.specs.List.{list_any, items_where_true, range_with_len}
 use Rattle.std.specs.List.Sorted.{IsStrictlyIncreasing}
 use Rattle.std.proofs.lemmas.Bool.{false≢true}
 use Rattle.std.proofs.lemmas.List.{take_more, length-take-le}
 use Rattle.std.proofs.lemmas.List.FromFn.{length-range_with_len}
 use Rattle.number_lists.proofs.CallerLemmas.{increasing_head, increasing_tail, at-In, In-at}
-use Rattle.number_lists.specs.Members.{In, here, there}
-use Rattle.tuple_spaces.proofs.PassingPlaces.{range-more}
-
-pub where-map : {A B : Type 0} (f : A → B) (bs : List Bool) (xs : List A) → items_where_true bs (map f xs) ≡ map f (items_where_true bs xs)
-where-map f [] xs = refl
-where-map f (b ∷ bs) [] = refl
-where-map f (true ∷ bs) (x ∷ xs) = ap (λ ys. f x ∷ ys) (where-map f bs xs)
-where-map f (false ∷ bs) (x ∷ xs) = where-map f bs xs
+use Rattle.number_lists.specs.Members.{In}
+use Rattle.tuple_spaces.proofs.CallerLemmas.{range-more, where-In}
 
 where-push : (bs : List Bool) (xs : List ℕ) (b : Bool) (x : ℕ) → length bs ≡ length xs → items_where_true (bs ++ b ∷ []) (xs ++ x ∷ []) ≡ items_where_true bs xs ++ cond b (x ∷ []) []
 where-push [] [] true x h = refl
@@ -29,13 +23,6 @@ where-more bs i d l =
     ap (λ (cs : List Bool). items_where_true cs (range_with_len 0 (i + 1))) (take_more bs i d l)
     ∙ (ap (λ (xs : List ℕ). items_where_true (take i bs ++ get_or bs i d ∷ []) xs) (range-more i)
     ∙ where-push (take i bs) (range_with_len 0 i) (get_or bs i d) i (length-take-le i bs (omega arith) ∙ sym (length-range_with_len 0 i)))
-
-pub where-In : {x : ℕ} (bs : List Bool) (xs : List ℕ) → In x (items_where_true bs xs) → In x xs
-where-In [] xs i = elim i [ ]
-where-In (b ∷ bs) [] i = elim i [ ]
-where-In (true ∷ bs) (y ∷ ys) here = here
-where-In (true ∷ bs) (y ∷ ys) (there i) = there (where-In bs ys i)
-where-In (false ∷ bs) (y ∷ ys) i = there (where-In bs ys i)
 
 rises-cons : (x : ℕ) (ys : List ℕ) → ((y : ℕ) → In y ys → x < y) → IsStrictlyIncreasing ys → IsStrictlyIncreasing (x ∷ ys)
 rises-cons x ys h r zero l = h (get_or ys 0 0) (at-In ys 0 0 (omega arith))

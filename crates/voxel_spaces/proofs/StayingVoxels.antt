@@ -6,22 +6,20 @@ use Rattle.std.proofs.Math.Nat.{mul-le-mul}
 use Rattle.std.proofs.lemmas.Bool.{lt-ltb}
 use Rattle.std.proofs.lemmas.Nat.{div-add-mod'}
 use Rattle.std.proofs.lemmas.List.{length-map, append-nil}
-use Rattle.std.proofs.lemmas.List.Elements.{filter-append}
 use Rattle.std.proofs.lemmas.List.Kept.{IsStrictlyIncreasing-filter}
 use Rattle.std.proofs.lemmas.List.FromFn.{length-map-range_with_len, get_or-map-range_with_len}
 use Rattle.face_poset.specs.Words.{holds}
-use Rattle.number_lists.proofs.CallerLemmas.{length-filter-le, same_increasing, In-filter, In-inside, filter-In, holds-In, In-holds, In-at, at-In, same_bool}
+use Rattle.number_lists.proofs.CallerLemmas.{length-filter-le, same_increasing, In-filter, In-inside, filter-In, holds-In, In-holds, In-at, at-In, Contains-In, In-Contains, filter-map, increasing-range}
+use Rattle.std.specs.Cmp.{both_ways}
 use Rattle.number_lists.specs.Members.{In}
 use Rattle.array_values.specs.Bits.{volume}
-use Rattle.tuple_spaces.proofs.PassingPlaces.{range-more}
-use Rattle.tuple_spaces.proofs.Triples.{filter_map}
+use Rattle.tuple_spaces.proofs.CallerLemmas.{filter-next, In-below, below-In}
 use Rattle.array_values.specs.declared.fault.ArrayFault.TheVariants.{TooManyCells}
-use Rattle.tuple_spaces.specs.Tuples.{space_of}
-use Rattle.tuple_spaces.specs.Voxels.{boxed, facets, limits_of, limited, voxel_space}
-use Rattle.voxel_spaces.specs.Places.{strides_of, tuple_at}
+use Rattle.tuple_spaces.specs.Tuples.{space_of, boxed}
+use Rattle.tuple_spaces.specs.Voxels.{facets, limits_of, limited, voxel_space}
+use Rattle.voxel_spaces.specs.BoxTuples.{strides_of, tuple_at}
 use Rattle.voxel_spaces.proofs.PlacesInBoxes.{Some, boxed-is}
-use Rattle.voxel_spaces.proofs.ClosedPlaces.{increasing-range, range-In, In-range, flat-cell, cells-at, many-cells}
-use Rattle.voxel_spaces.proofs.Finding.{to_In, from_In}
+use Rattle.voxel_spaces.proofs.ClosedPlaces.{flat-cell, cells-at, many-cells}
 use Rattle.voxel_spaces.proofs.CellPlaces.{Keeps, all_faces}
 use Rattle.voxel_spaces.specs.ArcComplements.{box_of, any_row, by_row, is_taken, stays}
 
@@ -43,17 +41,17 @@ staying rows = filter (λ i. stays rows (tuple_at (strides_of (box_of (length ro
 pub boxed-staying : (rows : List (ℕ × ℕ)) → filter (stays rows) (boxed (box_of (length rows))) ≡ map (tuple_at (strides_of (box_of (length rows)))) (staying rows)
 boxed-staying rows =
     let b : List ℕ = box_of (length rows) in
-    ap (filter (stays rows)) (boxed-is b (some_box (length rows))) ∙ filter_map (stays rows) (tuple_at (strides_of b)) (range_with_len 0 (volume b))
+    ap (filter (stays rows)) (boxed-is b (some_box (length rows))) ∙ filter-map (stays rows) (tuple_at (strides_of b)) (range_with_len 0 (volume b))
 
 pub staying-inside : (rows : List (ℕ × ℕ)) → All (λ i. i < volume (box_of (length rows))) (staying rows)
 staying-inside rows k d l =
     let n : ℕ = volume (box_of (length rows)) in
-    In-range n (get_or (staying rows) k d) (In-inside (λ i. stays rows (tuple_at (strides_of (box_of (length rows))) i)) (range_with_len 0 n) (at-In (staying rows) k d l))
+    below-In n (get_or (staying rows) k d) (In-inside (λ i. stays rows (tuple_at (strides_of (box_of (length rows))) i)) (range_with_len 0 n) (at-In (staying rows) k d l))
 
 pub staying-rises : (rows : List (ℕ × ℕ)) → IsStrictlyIncreasing (staying rows)
 staying-rises rows =
     let n : ℕ = volume (box_of (length rows)) in
-    IsStrictlyIncreasing-filter (λ i. stays rows (tuple_at (strides_of (box_of (length rows))) i)) (range_with_len 0 n) (increasing-range n)
+    IsStrictlyIncreasing-filter (λ i. stays rows (tuple_at (strides_of (box_of (length rows))) i)) (range_with_len 0 n) (increasing-range 0 n)
 
 -- ---- the bottom layer stays
 
@@ -79,7 +77,7 @@ bottom-in rows j l =
     let e : 5 * j / (w * 5) * (w * 5) + i ≡ 5 * j = div-add-mod' (5 * j) (w * 5) in
     let z : i % 5 ≡ 0 = bottom-rest w (5 * j / (w * 5)) j i e in
     let t : tuple_at (strides_of (box_of (length rows))) (5 * j) ≡ (5 * j / (w * 5)) ∷ (i / 5) ∷ 0 ∷ [] = ap (λ (n : ℕ). (5 * j / (w * 5)) ∷ (i / 5) ∷ n ∷ []) (let q : i % 5 / 1 ≡ 0 = omega (arith, z) in q) in
-    In-filter (λ p. stays rows (tuple_at (strides_of (box_of (length rows))) p)) (range-In (volume (box_of (length rows))) (5 * j) l) (ap (stays rows) t ∙ bottom-stays rows (5 * j / (w * 5)) (i / 5))
+    In-filter (λ p. stays rows (tuple_at (strides_of (box_of (length rows))) p)) (In-below (volume (box_of (length rows))) (5 * j) l) (ap (stays rows) t ∙ bottom-stays rows (5 * j / (w * 5)) (i / 5))
 
 pub staying-some : (rows : List (ℕ × ℕ)) → 1 ≤ length (staying rows)
 staying-some rows =
@@ -101,7 +99,7 @@ staying-least rows m h =
     let l : r.0 < m = omega (arith, r.1, long) in
     subst (λ (k : ℕ). In k Q) (sym (at r.0 l) ∙ r.2) (bottom-in rows r.0 (h r.0 l)) in
     let same_list : C ≡ filter (holds C) Q = same_increasing C (filter (holds C) Q) up (IsStrictlyIncreasing-filter (holds C) Q (staying-rises rows))
-    (λ n. same_bool (holds C n) (holds (filter (holds C) Q) n) (λ e. In-holds (In-filter (holds C) (inside n (holds-In C e)) e)) (λ e. filter-In (holds C) Q (holds-In (filter (holds C) Q) e))) in
+    (λ n. both_ways (holds C n) (holds (filter (holds C) Q) n) (λ e. In-holds (In-filter (holds C) (inside n (holds-In C e)) e)) (λ e. filter-In (holds C) Q (holds-In (filter (holds C) Q) e))) in
     omega (arith, long, ap (λ (xs : List ℕ). length xs) same_list, length-filter-le (holds C) Q)
 
 -- above 121 rows the bottom layer has too many voxels
@@ -119,9 +117,9 @@ too_many sizes I s inside rises m =
     let F : List ℕ = all_faces (strides_of sizes) (strides_of (limits_of sizes)) I in
     let n : ℕ = volume (limits_of sizes) in
     let P : List ℕ = filter (holds F) (range_with_len 0 n) in
-    let inc : IsStrictlyIncreasing P = IsStrictlyIncreasing-filter (holds F) (range_with_len 0 n) (increasing-range n) in
-    let keeps : Keeps F P = λ k c. (let i : In k F = to_In F k c in from_In P k (In-filter (holds F) (range-In n k (flat-cell sizes I s within k i).below) (In-holds i))) in
-    let adds_none : Keeps P F = λ k c. from_In F k (holds-In F (filter-In (holds F) (range_with_len 0 n) (to_In P k c))) in
+    let inc : IsStrictlyIncreasing P = IsStrictlyIncreasing-filter (holds F) (range_with_len 0 n) (increasing-range 0 n) in
+    let keeps : Keeps F P = λ k c. (let i : In k F = Contains-In c in In-Contains (In-filter (holds F) (In-below n k (flat-cell sizes I s within k i).below) (In-holds i))) in
+    let adds_none : Keeps P F = λ k c. In-Contains (holds-In F (filter-In (holds F) (range_with_len 0 n) (Contains-In c))) in
     ap limited (cells-at sizes I P s within inc keeps adds_none)
     ∙ big (map (tuple_at (strides_of (limits_of sizes))) P) (omega (arith, length-map P (tuple_at (strides_of (limits_of sizes))), many-cells sizes I P s within inc keeps adds_none rises, m))
   where
@@ -129,9 +127,6 @@ too_many sizes I s inside rises m =
     big cells l = ap (λ (b : Bool). cond b (Err TooManyCells) (Ok (space_of facets cells))) (lt-ltb 60000 (length cells) l)
 
 -- ---- one voxel more
-
-pub filter-more : (p : ℕ → Bool) (n : ℕ) → filter p (range_with_len 0 (n + 1)) ≡ filter p (range_with_len 0 n) ++ cond (p n) (n ∷ []) []
-filter-more p n = ap (filter p) (range-more n) ∙ filter-append p (range_with_len 0 n) (n ∷ [])
 
 pub stays-is : (rows : List (ℕ × ℕ)) (side i : ℕ) (taken : Bool) → side ≡ 2 * length rows + 1 → taken ≡ is_taken rows (i / (side * 5)) (i % (side * 5) / 5) (i % (side * 5) % 5)
     → stays rows (tuple_at (strides_of (box_of (length rows))) i) ≡ not taken
@@ -145,10 +140,10 @@ pub one_more : (rows : List (ℕ × ℕ)) (i : ℕ) (old now new : List ℕ) →
     → now ≡ new → new ≡ old ++ i ∷ [] → now ≡ filter (λ j. stays rows (tuple_at (strides_of (box_of (length rows))) j)) (range_with_len 0 (i + 1))
 one_more rows i old now new e h is pushed =
     let p : ℕ → Bool = λ j. stays rows (tuple_at (strides_of (box_of (length rows))) j) in
-    is ∙ (pushed ∙ (ap (λ (xs : List ℕ). xs ++ i ∷ []) h ∙ sym (filter-more p i ∙ ap (λ (b : Bool). filter p (range_with_len 0 i) ++ cond b (i ∷ []) []) e)))
+    is ∙ (pushed ∙ (ap (λ (xs : List ℕ). xs ++ i ∷ []) h ∙ sym (filter-next p 0 i i (omega arith) ∙ ap (λ (b : Bool). filter p (range_with_len 0 i) ++ cond b (i ∷ []) []) e)))
 
 pub none_more : (rows : List (ℕ × ℕ)) (i : ℕ) (old now : List ℕ) → stays rows (tuple_at (strides_of (box_of (length rows))) i) ≡ false → old ≡ filter (λ j. stays rows (tuple_at (strides_of (box_of (length rows))) j)) (range_with_len 0 i)
     → now ≡ old → now ≡ filter (λ j. stays rows (tuple_at (strides_of (box_of (length rows))) j)) (range_with_len 0 (i + 1))
 none_more rows i old now e h is =
     let p : ℕ → Bool = λ j. stays rows (tuple_at (strides_of (box_of (length rows))) j) in
-    is ∙ (h ∙ sym (filter-more p i ∙ (ap (λ (b : Bool). filter p (range_with_len 0 i) ++ cond b (i ∷ []) []) e ∙ append-nil (filter p (range_with_len 0 i)))))
+    is ∙ (h ∙ sym (filter-next p 0 i i (omega arith) ∙ (ap (λ (b : Bool). filter p (range_with_len 0 i) ++ cond b (i ∷ []) []) e ∙ append-nil (filter p (range_with_len 0 i)))))

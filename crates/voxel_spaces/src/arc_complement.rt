@@ -1,9 +1,9 @@
 ghost use Rattle.std.specs.Prelude.{◌≡◌, ◌≢◌, ◌≤◌, ◌+◌, ◌*◌, length, filter, IfOk, IfErr, Ok, Err};
 ghost use Rattle.std.specs.List.{range_with_len};
 ghost use Rattle.gap_text.specs.Nest.{view};
-ghost use Rattle.regular_check.specs.Rules.{IsRegular};
+ghost use Rattle.tuple_spaces.specs.Rules.{IsRegular};
 ghost use Rattle.array_values.specs.Bits.{volume};
-ghost use Rattle.voxel_spaces.specs.Places.{strides_of, tuple_at};
+ghost use Rattle.voxel_spaces.specs.BoxTuples.{strides_of, tuple_at};
 ghost use Rattle.voxel_spaces.specs.ArcComplements.{box_of, stays, arcs_space_of};
 
 use crate::arc_rows::is_taken;

@@ -4,7 +4,8 @@ ghost use Rattle.std.specs.Prelude.{◌≡◌, ◌≤◌, ◌<◌, ◌+◌, ◌^
 ghost use Rattle.std.specs.List.{All};
 ghost use Rattle.array_values.specs.Bits.{volume};
 ghost use Rattle.tuple_spaces.specs.Voxels.{limits_of};
-ghost use Rattle.voxel_spaces.specs.Places.{strides_of, dim_at, voxel_place, face_places};
+ghost use Rattle.voxel_spaces.specs.Places.{dim_at, voxel_place, face_places};
+ghost use Rattle.voxel_spaces.specs.BoxTuples.{strides_of};
 
 use std::alloc::{AllocError, Global};
 

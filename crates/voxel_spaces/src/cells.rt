@@ -6,6 +6,7 @@ ghost use Rattle.voxel_spaces.specs.Places.{dim_at, facet_places, number_among, 
 
 use crate::box_places::dimension;
 use face_poset::Builder;
+use number_lists::sort_once;
 use std::alloc::{AllocError, Global};
 
 /// The number of each cell among those of its dimension, counted from 1, by the index of its place.
@@ -87,16 +88,6 @@ fn list_facets(
         rest %= *stride;
     }
     Ok(())
-}
-
-/// Sorts the numbers, and leaves each once.
-fn sort_once(numbers: &mut Vec<u32>)
-    ensures rises { IsStrictlyIncreasing numbers.new.items }
-    ensures keeps { (n : ℕ) → Contains numbers.old.items n → Contains numbers.new.items n }
-    ensures adds_none { (n : ℕ) → Contains numbers.new.items n → Contains numbers.old.items n }
-{
-    numbers.sort_unstable();
-    numbers.dedup();
 }
 
 /// Adds the cells of a dimension, where all cells of lower dimensions stand.

@@ -1,7 +1,7 @@
 ghost use Rattle.std.specs.Prelude.{◌≡◌, ◌≢◌, length, IfOk, IfErr, Ok, Err};
 ghost use Rattle.std.specs.List.{range_with_len, items_where_true};
 ghost use Rattle.gap_text.specs.Nest.{view};
-ghost use Rattle.regular_check.specs.Rules.{IsRegular};
+ghost use Rattle.tuple_spaces.specs.Rules.{IsRegular};
 ghost use Rattle.tuple_spaces.specs.Voxels.{cubical_of};
 
 use crate::voxels::voxel_space;

@@ -4,13 +4,15 @@ ghost use Rattle.std.specs.List.{All, flat_map};
 ghost use Rattle.std.specs.List.Sorted.{IsStrictlyIncreasing};
 ghost use Rattle.array_values.specs.Bits.{volume};
 ghost use Rattle.tuple_spaces.specs.Voxels.{limits_of, facets, voxel_space};
-ghost use Rattle.voxel_spaces.specs.Places.{strides_of, tuple_at, voxel_place, face_places, count_at, IsClosed};
+ghost use Rattle.voxel_spaces.specs.Places.{voxel_place, face_places, count_at, IsClosed};
+ghost use Rattle.voxel_spaces.specs.BoxTuples.{strides_of, tuple_at};
 ghost use Rattle.tuple_spaces.specs.Tuples.{space_of};
 
 use crate::box_places::{limits, push_faces, strides, voxel, widths};
 use crate::cells::{add_cells, number_all};
 use array_values::ArrayFault;
 use face_poset::{Builder, Space};
+use number_lists::sort_indexes_once;
 use std::alloc::{AllocError, Global};
 
 /// The most cells that a space may have.
@@ -42,18 +44,8 @@ fn list_places(
     for index in indices {
         push_faces(strides, 0, voxel(sides, strides, *index), &mut places)?;
     }
-    sort_once(&mut places);
+    sort_indexes_once(&mut places);
     Ok(places)
-}
-
-/// Sorts the places, and leaves each once.
-fn sort_once(places: &mut Vec<usize>)
-    ensures rises { IsStrictlyIncreasing places.new.items }
-    ensures keeps { (n : ℕ) → Contains places.old.items n → Contains places.new.items n }
-    ensures adds_none { (n : ℕ) → Contains places.new.items n → Contains places.old.items n }
-{
-    places.sort_unstable();
-    places.dedup();
 }
 
 /// The space of the cells at these places.

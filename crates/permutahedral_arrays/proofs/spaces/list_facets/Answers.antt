@@ -3,7 +3,7 @@ use Rattle.std.proofs.lemmas.List.{take_all}
 use Rattle.std.proofs.lemmas.List.FromFn.{length-map-range_with_len}
 use Rattle.face_poset.specs.Poset.{IsCell}
 use Rattle.number_lists.specs.Cofaces.{cells_with}
-use Rattle.permutahedral_arrays.specs.Places.{holds}
+use Rattle.permutahedral_arrays.specs.Places.{holds_all}
 use Rattle.permutahedral_arrays.proofs.Growing.{facets_among, listed-below}
 use Rattle.permutahedral_arrays.proofs.spaces.list_facets.Goals as goal
 
@@ -33,7 +33,7 @@ pub returns : goal.returns
 returns c =
     let v : ℕ = get_or c.args.cell.now 0 0 in
     let w = first-within c.args.most c.args.cell.now c.requires.cell in
-    let p : ℕ → Bool = λ n. holds (get_or c.args.above.now (n - 1) []) c.args.cell.now in
+    let p : ℕ → Bool = λ n. holds_all (get_or c.args.above.now (n - 1) []) c.args.cell.now in
     c.loop-number.invariant
     ∙ (ap (filter p) (take_all c.loop-number.number-index c.get-listed.result.now (omega (arith, c.loop-number-test.false)))
     ∙ facets_among c.args.above.now c.args.cell.now c.get-listed.result.now c.args.most c.requires.cell.some w.0 w.1 (c.get-listed.ensures ∙ ap (λ (ls : List (List ℕ)). get_or ls (v - 1) []) c.requires.holders))

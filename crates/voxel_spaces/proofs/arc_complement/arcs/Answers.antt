@@ -9,7 +9,7 @@ use Rattle.array_values.specs.Answers.{and_then}
 use Rattle.array_values.specs.Bits.{volume}
 use Rattle.array_values.specs.Arcs.{arcs_of}
 use Rattle.tuple_spaces.specs.Voxels.{voxel_space}
-use Rattle.voxel_spaces.specs.Places.{strides_of, tuple_at}
+use Rattle.voxel_spaces.specs.BoxTuples.{strides_of, tuple_at}
 use Rattle.voxel_spaces.specs.ArcComplements.{box_of, stays, complement_of, arcs_space_of}
 use Rattle.voxel_spaces.proofs.StayingVoxels.{some_box, staying, boxed-staying, staying-inside, staying-rises, staying-some, staying-many, too_many}
 use Rattle.voxel_spaces.proofs.arc_complement.arcs.Goals as goal

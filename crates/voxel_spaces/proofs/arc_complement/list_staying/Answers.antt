@@ -1,7 +1,7 @@
 use Rattle.std.proofs.Common.{◌≡◌, ℕ, List, not, length, filter, ap, ◌∙◌, arith}
 use Rattle.std.specs.List.{range_with_len}
 use Rattle.array_values.specs.Bits.{volume}
-use Rattle.voxel_spaces.specs.Places.{strides_of, tuple_at}
+use Rattle.voxel_spaces.specs.BoxTuples.{strides_of, tuple_at}
 use Rattle.voxel_spaces.specs.ArcComplements.{box_of, stays}
 use Rattle.voxel_spaces.proofs.StayingVoxels.{volume-is, stays-is, one_more, none_more}
 use Rattle.voxel_spaces.proofs.arc_complement.list_staying.Goals as goal

@@ -1,6 +1,6 @@
 use Rattle.std.proofs.Common.{◌≡◌, length, filter}
 use Rattle.std.specs.List.{range_with_len}
-use Rattle.voxel_spaces.specs.Places.{strides_of, tuple_at}
+use Rattle.voxel_spaces.specs.BoxTuples.{strides_of, tuple_at}
 use Rattle.voxel_spaces.specs.ArcComplements.{box_of, stays}
 use Rattle.voxel_spaces.proofs.arc_complement.list_staying.Given as goal
 

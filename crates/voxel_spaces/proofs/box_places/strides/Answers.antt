@@ -1,6 +1,6 @@
 use Rattle.std.proofs.Common.{◌<◌, ◌∙◌, length, arith}
 use Rattle.std.proofs.lemmas.List.{take_all}
-use Rattle.voxel_spaces.specs.Places.{strides_of}
+use Rattle.voxel_spaces.specs.BoxTuples.{strides_of}
 use Rattle.voxel_spaces.proofs.BoxLevels.{length-strides, strides-more}
 use Rattle.voxel_spaces.proofs.box_places.strides.Goals as goal
 

@@ -3,9 +3,8 @@ use Rattle.std.proofs.lemmas.Bool.{false≢true}
 use Rattle.std.proofs.lemmas.List.{take_more}
 use Rattle.face_poset.specs.declared.builder.BuildFault.{BuildFault}
 use Rattle.number_lists.specs.Members.{In}
-use Rattle.number_lists.proofs.CallerLemmas.{at-In}
+use Rattle.number_lists.proofs.CallerLemmas.{at-In, In-Contains}
 use Rattle.voxel_spaces.specs.Places.{stage}
-use Rattle.voxel_spaces.proofs.Finding.{from_In}
 use Rattle.voxel_spaces.proofs.SpaceStages.{stage-idle}
 use Rattle.voxel_spaces.proofs.Adding.{facets_sorted, vertex_facets, facets_fit, one_more}
 use Rattle.voxel_spaces.proofs.cells.add_cells.Goals as goal
@@ -14,12 +13,12 @@ use Rattle.voxel_spaces.proofs.cells.add_cells.Goals.{then-dimension-dim+in_ok-l
 pub list_facets-requires-clause-there : goal.list_facets-requires-clause-there
 list_facets-requires-clause-there c =
     let p : ℕ = get_or c.args.places.now c.loop-place.place-index 0 in
-    c.requires.closed.facets_there p (from_In c.args.places.now p (at-In c.args.places.now c.loop-place.place-index 0 c.loop-place-test.true))
+    c.requires.closed.facets_there p (In-Contains (at-In c.args.places.now c.loop-place.place-index 0 c.loop-place-test.true))
 
 pub list_facets-requires-clause-place : goal.list_facets-requires-clause-place
 list_facets-requires-clause-place c =
     let p : ℕ = get_or c.args.places.now c.loop-place.place-index 0 in
-    omega (arith, c.requires.closed.below p (from_In c.args.places.now p (at-In c.args.places.now c.loop-place.place-index 0 c.loop-place-test.true)), c.requires.closed.few)
+    omega (arith, c.requires.closed.below p (In-Contains (at-In c.args.places.now c.loop-place.place-index 0 c.loop-place-test.true)), c.requires.closed.few)
 
 pub add-requires-clause-vertex : goal.add-requires-clause-vertex
 add-requires-clause-vertex c e =

@@ -3,7 +3,7 @@ use Rattle.std.proofs.lemmas.Nat.{div-add-mod'}
 use Rattle.number_lists.specs.Members.{In, here, there}
 use Rattle.voxel_spaces.specs.Places.{facets_from, facet_places, number_among}
 use Rattle.voxel_spaces.proofs.BoxLevels.{facets_from-odd, facets_from-even}
-use Rattle.voxel_spaces.proofs.Finding.{from_In}
+use Rattle.number_lists.proofs.CallerLemmas.{In-Contains}
 use Rattle.voxel_spaces.proofs.cells.list_facets.Goals as goal
 use Rattle.voxel_spaces.proofs.cells.list_facets.Goals.{then-coordinate-eq1+in_ok-push+in_ok-push-2, else-coordinate-eq1}
 
@@ -12,14 +12,14 @@ number_at-requires-clause-there c =
     let i : ℕ = c.loop-stride.stride-index in
     let e = facets_from-odd c.args.strides.now i c.args.place c.loop-stride.rest c.loop-stride-test.true c.if-coordinate-eq1.true in
     let k : ℕ = c.args.place - get_or c.args.strides.now i 0 in
-    c.requires.there k (from_In (facet_places c.args.strides.now c.args.place) k (c.loop-stride.invariant.inside k (subst (In k) (sym e) here)))
+    c.requires.there k (In-Contains (c.loop-stride.invariant.inside k (subst (In k) (sym e) here)))
 
 pub number_at-requires-then-coordinate-eq1-clause-there : goal.number_at-requires-then-coordinate-eq1-clause-there
 number_at-requires-then-coordinate-eq1-clause-there c =
     let i : ℕ = c.loop-stride.stride-index in
     let e = facets_from-odd c.args.strides.now i c.args.place c.loop-stride.rest c.loop-stride-test.true c.if-coordinate-eq1.true in
     let k : ℕ = c.args.place + get_or c.args.strides.now i 0 in
-    c.requires.there k (from_In (facet_places c.args.strides.now c.args.place) k (c.loop-stride.invariant.inside k (subst (In k) (sym e) (there here))))
+    c.requires.there k (In-Contains (c.loop-stride.invariant.inside k (subst (In k) (sym e) (there here))))
 
 -- two facets more are listed
 two_more : (f : ℕ → ℕ) (all : List ℕ) (old new_first new rest part : List ℕ) (j k a b : ℕ) → rest ≡ j ∷ k ∷ part → a ≡ f j → b ≡ f k → new_first ≡ old ++ a ∷ [] → new ≡ new_first ++ b ∷ [] → old ++ map f rest ≡ all → new ++ map f part ≡ all

@@ -6,8 +6,9 @@ use Rattle.gap_text.specs.Value.{Value}
 use Rattle.array_values.specs.declared.fault.ArrayFault.{ArrayFault}
 use Rattle.array_values.specs.Answers.{and_then}
 use Rattle.array_values.specs.Bits.{Bits, array_of}
-use Rattle.tuple_spaces.specs.Voxels.{boxed, voxel_space, cubical_of}
-use Rattle.voxel_spaces.specs.Places.{strides_of, tuple_at}
+use Rattle.tuple_spaces.specs.Voxels.{voxel_space, cubical_of}
+use Rattle.tuple_spaces.specs.Tuples.{boxed}
+use Rattle.voxel_spaces.specs.BoxTuples.{strides_of, tuple_at}
 use Rattle.voxel_spaces.proofs.ArrayVoxels.{IsReady, ready}
 use Rattle.voxel_spaces.proofs.cubes.cubical.Goals as goal
 

@@ -1,7 +1,8 @@
 use Rattle.std.proofs.Common.{◌≡◌, ℕ, List, [], map, Result, Ok, Err, IfOk, ap, ◌∙◌, arith}
 use Rattle.tuple_spaces.specs.Tuples.{space_of}
 use Rattle.tuple_spaces.specs.Voxels.{facets}
-use Rattle.voxel_spaces.specs.Places.{tuple_at, stage}
+use Rattle.voxel_spaces.specs.Places.{stage}
+use Rattle.voxel_spaces.specs.BoxTuples.{tuple_at}
 use Rattle.voxel_spaces.proofs.SpaceStages.{stage-all}
 use Rattle.voxel_spaces.proofs.voxels.build.Goals as goal
 

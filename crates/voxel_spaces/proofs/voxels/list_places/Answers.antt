@@ -17,10 +17,10 @@ pub returns-clause-keeps : goal.returns-clause-keeps
 returns-clause-keeps c =
     let f : ℕ → List ℕ = λ i. face_places c.args.strides.now (voxel_place c.args.sides.now c.args.strides.now i) in
     let e : c.loop-index.places.items ≡ flat_map f c.args.indices.now = c.loop-index.invariant ∙ ap (flat_map f) (take_all c.loop-index.index-index c.args.indices.now c.loop-index-test.false) in
-    λ n h. c.sort_once.ensures.keeps n (subst (λ (xs : List ℕ). Contains xs n) (sym e) h)
+    λ n h. c.sort_indexes_once.ensures.keeps n (subst (λ (xs : List ℕ). Contains xs n) (sym e) h)
 
 pub returns-clause-adds_none : goal.returns-clause-adds_none
 returns-clause-adds_none c =
     let f : ℕ → List ℕ = λ i. face_places c.args.strides.now (voxel_place c.args.sides.now c.args.strides.now i) in
     let e : c.loop-index.places.items ≡ flat_map f c.args.indices.now = c.loop-index.invariant ∙ ap (flat_map f) (take_all c.loop-index.index-index c.args.indices.now c.loop-index-test.false) in
-    λ n h. subst (λ (xs : List ℕ). Contains xs n) e (c.sort_once.ensures.adds_none n h)
+    λ n h. subst (λ (xs : List ℕ). Contains xs n) e (c.sort_indexes_once.ensures.adds_none n h)

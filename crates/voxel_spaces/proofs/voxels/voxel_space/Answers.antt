@@ -2,7 +2,8 @@ use Rattle.std.proofs.Common.{◌≡◌, ◌<◌, ◌≤◌, ◌∙◌, ℕ, Lis
 use Rattle.tuple_spaces.specs.Tuples.{space_of}
 use Rattle.array_values.specs.Bits.{volume}
 use Rattle.tuple_spaces.specs.Voxels.{facets, limits_of}
-use Rattle.voxel_spaces.specs.Places.{strides_of, tuple_at, IsClosed, count_at}
+use Rattle.voxel_spaces.specs.Places.{IsClosed, count_at}
+use Rattle.voxel_spaces.specs.BoxTuples.{strides_of, tuple_at}
 use Rattle.voxel_spaces.proofs.PlacesInBoxes.{Some}
 use Rattle.voxel_spaces.proofs.ClosedPlaces.{limits-few}
 use Rattle.voxel_spaces.proofs.FacetPlaces.{some_box}
