@@ -1,12 +1,13 @@
 -- The lines of a certificate for the circle of two points and two edges, modulo 3. The chains of degree 1 are numbered
 -- (1,3), (1,4), (2,3), (2,4), where 3 and 4 are the ids of the edges.
 use Rattle.std.proofs.Common.{◌≡◌, ℕ, List, [], ◌∷◌, true, false, refl}
+use Rattle.face_poset.specs.Poset.{Layers}
 use Rattle.small_field.specs.Field.{Ops}
 use Rattle.small_field.specs.Prime.{mod_ops}
 use Rattle.order_complex.specs.Chains.{chains_of}
 use Rattle.chain_laws.specs.Lines.{rank_holds, cocycle_holds, cycle_holds, pairing_holds, product_holds, count_holds}
 
-abbrev circle : List (List (List ℕ))
+abbrev circle : Layers
 circle = ([] ∷ [] ∷ []) ∷ ((1 ∷ 2 ∷ []) ∷ (1 ∷ 2 ∷ []) ∷ []) ∷ [] ∷ [] ∷ []
 
 abbrev F : Ops

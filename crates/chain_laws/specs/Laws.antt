@@ -5,6 +5,7 @@
 --   TestsAreEquations F         the test of each line holds exactly where its equations hold
 use Rattle.std.specs.Prelude.{◌≡◌, ◌≢◌, ◌↔◌, ℕ, suc, ◌+◌, List, true, length, map, replicate}
 use Rattle.std.specs.List.{AllByRecursion}
+use Rattle.face_poset.specs.Poset.{Layers}
 use Rattle.small_field.specs.Field.{Ops}
 use Rattle.linear_laws.specs.Marks.{mark}
 use Rattle.linear_laws.specs.Vectors.{IsVector, combination, plus_scaled}
@@ -24,13 +25,13 @@ pub record EntriesAreCochains (F : Ops) : Type 0 where
 -- the left side of a class line is a cocycle
 abbrev pub ClassLinesAreCocycles : Ops → Type 0
 ClassLinesAreCocycles F =
-    (space : List (List (List ℕ))) (degree : ℕ) (left : List (ℕ × ℕ)) → AreEntries F (length (chains_of space degree)) left
+    (space : Layers) (degree : ℕ) (left : List (ℕ × ℕ)) → AreEntries F (length (chains_of space degree)) left
     → cocycle_holds F (chains_of space degree) (chains_of space (suc degree)) left ≡ true → IsCocycle F space degree (cochain_in space degree left)
 
 -- a product line gives the entry of the cup table
 abbrev pub ProductLinesAreProducts : Ops → Type 0
 ProductLinesAreProducts F =
-    (space : List (List (List ℕ))) (i j degree : ℕ) (a b coefficients bound : List (ℕ × ℕ)) (lefts : List (List (ℕ × ℕ))) → i + j ≡ suc degree
+    (space : Layers) (i j degree : ℕ) (a b coefficients bound : List (ℕ × ℕ)) (lefts : List (List (ℕ × ℕ))) → i + j ≡ suc degree
     → AreEntries F (length lefts) coefficients → AreEntries F (length (chains_of space degree)) bound
     → product_holds F i (chains_of space i) a (chains_of space j) b (chains_of space degree) (chains_of space (suc degree)) lefts coefficients bound ≡ true
     → IsProduct F space i (cochain_in space i a) j (cochain_in space j b) (map (cochain_in space (suc degree)) lefts) (cochain_of (length lefts) coefficients)

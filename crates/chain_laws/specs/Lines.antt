@@ -18,6 +18,7 @@
 use Rattle.std.specs.Prelude.{ℕ, zero, suc, ◌+◌, ◌<◌, ◌≤◌, ◌==◌, ◌&&◌, List, [], ◌∷◌, Bool, not, cond, map, length, All}
 use Rattle.std.specs.List.{list_all}
 use Rattle.std.specs.Str.{bytes_eq}
+use Rattle.face_poset.specs.Poset.{Layers}
 use Rattle.small_field.specs.Field.{Ops}
 use Rattle.small_field.specs.Sparse.{IsSparse}
 use Rattle.linear_laws.specs.Marks.{mark}
@@ -89,10 +90,10 @@ count_holds chains rank_last rank_next classes = length chains == rank_last + ra
 -- ---- over a space
 
 -- the chains of one degree less
-abbrev pub chains_below : List (List (List ℕ)) → (degree : ℕ) → List (List ℕ)
+abbrev pub chains_below : Layers → (degree : ℕ) → List (List ℕ)
 chains_below space zero = []
 chains_below space (suc degree) = chains_of space degree
 
 -- the cochain of a degree with these entries
-abbrev pub cochain_in : List (List (List ℕ)) → (degree : ℕ) → List (ℕ × ℕ) → List ℕ
+abbrev pub cochain_in : Layers → (degree : ℕ) → List (ℕ × ℕ) → List ℕ
 cochain_in space degree entries = cochain_of (length (chains_of space degree)) entries

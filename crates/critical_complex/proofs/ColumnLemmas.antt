@@ -8,16 +8,12 @@ use Rattle.linear_laws.specs.Vectors.{dot, column, entry, bump, IsVector, IsMatr
 use Rattle.linear_laws.proofs.CallerLemmas.{dot_zeros, dot_comm, dot_bumped}
 use Rattle.small_field.proofs.CallerLemmas.{zero_below, add_zero}
 use Rattle.face_poset.specs.Words.{upto, holds}
-use Rattle.number_lists.proofs.CallerLemmas.{set-map-upto}
+use Rattle.number_lists.proofs.CallerLemmas.{set-map-upto, map_agree}
 use Rattle.critical_complex.specs.Columns.{coefficient, row_from, rows_from, sum_on, IsColumn, AreColumns}
 
 pub column_map : (g : ℕ → List ℕ) (j : ℕ) (xs : List ℕ) → column j (map g xs) ≡ map (λ a. get_or (g a) j 0) xs
 column_map g j [] = refl
 column_map g j (x ∷ xs) = ap (λ (r : List ℕ). get_or (g x) j 0 ∷ r) (column_map g j xs)
-
-pub map_same : (f g : ℕ → ℕ) → ((a : ℕ) → f a ≡ g a) → (xs : List ℕ) → map f xs ≡ map g xs
-map_same f g h [] = refl
-map_same f g h (x ∷ xs) = ap (λ (y : ℕ). y ∷ map f xs) (h x) ∙ ap (λ (r : List ℕ). g x ∷ r) (map_same f g h xs)
 
 pub map_zeros : (a n : ℕ) → map {B = ℕ} (λ (x : ℕ). 0) (range_with_len a n) ≡ replicate n 0
 map_zeros a zero = refl
@@ -50,7 +46,7 @@ module _ (F : Ops) where
 
   pub column_is : (below : ℕ) (css vss : List (List ℕ)) (j : ℕ) → AreColumns F below css vss → j < length css → column j (rows_from below css vss) ≡ map (coefficient (get_or css j []) (get_or vss j [])) (upto below)
   column_is below css vss j h lt =
-      column_map (row_from css vss) j (upto below) ∙ map_same (λ a. get_or (row_from css vss a) j 0) (coefficient (get_or css j []) (get_or vss j [])) (λ a. row_from_at below css vss j a h lt) (upto below)
+      column_map (row_from css vss) j (upto below) ∙ map_agree (λ a. get_or (row_from css vss a) j 0) (coefficient (get_or css j []) (get_or vss j [])) (upto below) (λ a. row_from_at below css vss j a h lt)
 
   pub entry_is : (below : ℕ) (css vss : List (List ℕ)) (i j : ℕ) → AreColumns F below css vss → i < below → j < length css → entry (rows_from below css vss) i j ≡ coefficient (get_or css j []) (get_or vss j []) (i + 1)
   entry_is below css vss i j h li lj =

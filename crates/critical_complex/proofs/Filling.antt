@@ -7,7 +7,7 @@ use Rattle.small_field.proofs.CallerLemmas.{neg_mul}
 use Rattle.linear_laws.specs.Marks.{mark}
 use Rattle.linear_laws.specs.Vectors.{dot, column, combination, plus_scaled, row_at, IsVector, IsMatrix}
 use Rattle.small_field.specs.Values.{AreElements}
-use Rattle.linear_laws.proofs.CallerLemmas.{entry_combination, combination-vector, zeros-elements, plus_scaled-long, dot_below}
+use Rattle.linear_laws.proofs.CallerLemmas.{all_at, entry_combination, combination-vector, zeros-elements, plus_scaled-long, dot_below}
 use Rattle.std.specs.List.{AllByRecursion}
 use Rattle.split_laws.specs.declared.kind.Kind.TheVariants.{Critical, Lower, Upper}
 use Rattle.critical_complex.proofs.Pairwise.{triangular_at}
@@ -21,19 +21,9 @@ use Rattle.critical_complex.specs.Stages.{Stage, IsPaired, place_of}
 use Rattle.critical_complex.specs.Blanks.{HasRow}
 use Rattle.critical_complex.proofs.Placed.{place_below, part_at}
 
-pub set_twice : {X : Type 0} (xs : List X) (i : ℕ) (a b : X) → set (set xs i a) i b ≡ set xs i b
-set_twice [] i a b = refl
-set_twice (x ∷ xs) zero a b = refl
-set_twice {X} (x ∷ xs) (suc i) a b = ap (λ (r : List X). x ∷ r) (set_twice xs i a b)
-
 module _ (F : Ops) (L : IsField F) where
   zeros-vector : (n : ℕ) → IsVector F n (replicate n 0)
   zeros-vector n = record { long = length-replicate n 0; elements = zeros-elements F L n }
-
-  pub set_below : (xs : List ℕ) (i v : ℕ) → v < F.size → AreElements F xs → AreElements F (set xs i v)
-  set_below [] i v l h = h
-  set_below (x ∷ xs) zero v l h = (l, h.1)
-  set_below (x ∷ xs) (suc i) v l h = (h.0, set_below xs i v l h.1)
 
   -- the coboundary at a critical cell
   pub value_is : (m : ℕ) (rows : List (List ℕ)) (us : List Kind) (x : List ℕ) (col : ℕ) → IsMatrix F m rows → length us ≡ m → col < criticals us → dot F x (column (place_of us col) rows) ≡ get_or (part us (combination F m x rows)) col 0
@@ -171,10 +161,5 @@ pub pair_small : (F : Ops) (s next : Stage) → IsPaired F s next → (i : ℕ) 
 pair_small F s next P i p d lt e =
     let a : (get_or s.pairs i d).lower < length s.rows = (triangular_at s.rows s.pairs i d P.matching.triangular lt).0 in (
       subst (λ (q : Match). q.lower < length s.kinds) (sym e) (subst (λ (n : ℕ). (get_or s.pairs i d).lower < n) P.matching.long a),
-      subst (λ (q : Match). q.upper < length next.kinds) (sym e) (all_at_match (λ q. q.upper < length next.kinds) s.pairs i d lt P.matching.uppers),
+      subst (λ (q : Match). q.upper < length next.kinds) (sym e) (all_at (λ (q : Match). q.upper < length next.kinds) s.pairs i d lt P.matching.uppers),
     )
-  where
-    all_at_match : (Q : Match → Type 0) (ps : List Match) (i : ℕ) (d : Match) → i < length ps → AllByRecursion Q ps → Q (get_or ps i d)
-    all_at_match Q [] i d lt h = absurd (omega arith)
-    all_at_match Q (q ∷ ps) zero d lt h = h.0
-    all_at_match Q (q ∷ ps) (suc i) d lt h = all_at_match Q ps i d (omega arith) h.1

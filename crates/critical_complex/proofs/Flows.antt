@@ -5,7 +5,7 @@ use Rattle.std.proofs.lemmas.List.FromFn.{length-map-range_with_len}
 use Rattle.small_field.specs.Field.{Ops, IsField}
 use Rattle.linear_laws.specs.Vectors.{boundary, bump, column, dot, entry, plus_scaled, row_at, IsMatrix}
 use Rattle.small_field.specs.Values.{AreElements}
-use Rattle.linear_laws.proofs.CallerLemmas.{dot_bumped, dot_comm, dot_zeros, list_below}
+use Rattle.linear_laws.proofs.CallerLemmas.{all_set, dot_bumped, dot_comm, dot_zeros, list_below}
 use Rattle.field_matrix.specs.Rows.{Rows}
 use Rattle.face_poset.specs.Words.{upto}
 use Rattle.split_laws.specs.declared.kind.Kind.{Kind}
@@ -18,7 +18,7 @@ use Rattle.split_laws.proofs.CallerLemmas.{boundary_at, flowed, spread_long, spr
 use Rattle.critical_complex.specs.Columns.{coefficient, add_on, IsColumn, AreColumns}
 use Rattle.critical_complex.specs.Stages.{Stage, IsPaired, place_of}
 use Rattle.critical_complex.proofs.ColumnLemmas.{map_zeros, more, column_is}
-use Rattle.critical_complex.proofs.Filling.{plus_zeros_at, set_below}
+use Rattle.critical_complex.proofs.Filling.{plus_zeros_at}
 use Rattle.critical_complex.proofs.Placed.{place_below, spread_nothing, spread_step}
 use Rattle.critical_complex.proofs.Viewed.{seen, rows_are, cols_are, long_are, column_of}
 
@@ -72,7 +72,7 @@ module _ (F : Ops) (L : IsField F) where
   added n (c ∷ cs) (v ∷ vs) s b h l el =
       let w : ℕ = F.add (get_or b (c - 1) 0) (F.mul s v) in
       let d : List ℕ = map (coefficient cs vs) (upto n) in
-      added n cs vs s (set b (c - 1) w) h.4 (length-set b (c - 1) w ∙ l) (set_below F L b (c - 1) w (L.add_below (get_or b (c - 1) 0) (F.mul s v)) el)
+      added n cs vs s (set b (c - 1) w) h.4 (length-set b (c - 1) w ∙ l) (all_set (λ x. x < F.size) b (c - 1) w (L.add_below (get_or b (c - 1) 0) (F.mul s v)) el)
       ∙ (bump_across s b d (c - 1) v (l ∙ sym (length-map-range_with_len (coefficient cs vs) 1 n)) ∙ ap (plus_scaled F s b) (more F L n c v cs vs h.0 h.1 h.2 h.3))
 
   -- as contracts see columns

@@ -1,5 +1,6 @@
 -- Indexes of pairs and of critical cells.
 use Rattle.std.proofs.Common.{◌≡◌, ◌≢◌, inl, inr, ℕ, zero, suc, ◌+◌, ◌<◌, List, [], ◌∷◌, ◌++◌, length, take, get_or, set, get_or-set_same, get_or-set_other, refl, ap, sym, ◌∙◌, arith, subst}
+use Rattle.std.proofs.Math.Seq.{take-append_seam}
 use Rattle.std.proofs.lemmas.Bool.{cases_eq}
 use Rattle.small_field.specs.Field.{Ops}
 use Rattle.split_laws.specs.declared.kind.Kind.{Kind}
@@ -10,16 +11,8 @@ use Rattle.split_laws.specs.Pairs.{HasUpper, kind_at}
 use Rattle.critical_complex.specs.Stages.{Stage, IsPaired, place_of}
 use Rattle.critical_complex.specs.Reaches.{HasPair, AreIndexes}
 use Rattle.critical_complex.specs.Units.{pair_at}
+use Rattle.critical_complex.proofs.KindLemmas.{critical_no_upper, lower_no_critical, upper_no_critical}
 use Rattle.critical_complex.proofs.Placed.{place_below}
-
-pub critical_no_upper : Critical ≡ Upper → ⊥
-critical_no_upper e = cc
-
-lower_no_critical : Lower ≡ Critical → ⊥
-lower_no_critical e = cc
-
-upper_no_critical : Upper ≡ Critical → ⊥
-upper_no_critical e = cc
 
 -- ---- places of critical cells
 
@@ -106,12 +99,4 @@ indexes_are F s next xs ys P l pairs columns others = record {
 
 -- what was written to the places of a vector
 pub written : (xs zs : List ℕ) (n : ℕ) → n ≡ length xs → take n (xs ++ zs) ≡ xs
-written xs zs n e = ap (λ (k : ℕ). take k (xs ++ zs)) e ∙ front xs zs
-  where
-    front : (xs zs : List ℕ) → take (length xs) (xs ++ zs) ≡ xs
-    front [] zs = take_none zs
-      where
-        take_none : (zs : List ℕ) → take 0 zs ≡ []
-        take_none [] = refl
-        take_none (z ∷ zs) = refl
-    front (x ∷ xs) zs = ap (λ (r : List ℕ). x ∷ r) (front xs zs)
+written xs zs n e = ap (λ (k : ℕ). take k (xs ++ zs)) e ∙ take-append_seam xs zs

@@ -1,14 +1,15 @@
-pub mod ColumnLemmas
-pub mod Viewed
-pub mod Pairwise
-pub mod Placed
-pub mod SignedLemmas
-pub mod KindLemmas
-pub mod Matching
-pub mod Filling
-pub mod Indexed
-pub mod Searched
-pub mod Sparse
-pub mod Rows
-pub mod Flows
-pub mod UnitLemmas
+pub mod CallerLemmas
+mod ColumnLemmas
+mod Filling
+mod Flows
+mod Indexed
+mod KindLemmas
+mod Matching
+mod Pairwise
+mod Placed
+mod Rows
+mod Searched
+mod SignedLemmas
+mod Sparse
+mod UnitLemmas
+mod Viewed

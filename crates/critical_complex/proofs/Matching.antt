@@ -1,19 +1,18 @@
 -- A valid field of a signed set is a matching between each two dimensions.
 use Rattle.std.proofs.Common.{◌≡◌, ◌≢◌, ◌⊎◌, inl, inr, ℕ, suc, ◌+◌, ◌-◌, ◌≤◌, ◌<◌, List, [], ◌∷◌, ◌++◌, Bool, true, false, cond, ◌&&◌, not, nat_lt, nat_le, eqb, filter, length, map, get_or, refl, ap, sym, ◌∙◌, arith, subst}
 use Rattle.std.specs.List.{AllByRecursion}
-use Rattle.std.proofs.lemmas.Bool.{eqb-true, eq-eqb, and_parts, not_from_false, leb-true, ltb-true, cases_eq, ne_eqb}
+use Rattle.std.proofs.lemmas.Bool.{false≢true, eqb-true, eq-eqb, and_parts, not_from_false, leb-true, ltb-true, cases_eq, ne_eqb}
 use Rattle.std.proofs.lemmas.List.FromFn.{length-map-range_with_len, get_or-map-range_with_len}
 use Rattle.small_field.specs.Field.{Ops, IsField}
 use Rattle.small_field.proofs.CallerLemmas.{neg_neg, neg_zero, zero_below}
 use Rattle.linear_laws.specs.Vectors.{entry, IsVector, IsMatrix}
 use Rattle.face_poset.specs.declared.cells.Pair.{Pair}
 use Rattle.face_poset.specs.Words.{upto, holds}
-use Rattle.face_poset.specs.Poset.{count, facets_of}
-use Rattle.number_lists.proofs.CallerLemmas.{length-upto}
+use Rattle.face_poset.specs.Poset.{Layers, count, facets_of}
+use Rattle.number_lists.proofs.CallerLemmas.{length-upto, In-cases, In-filter, any-none}
 use Rattle.vector_field.specs.Pairs.{pair, is_incident, IsValid}
-use Rattle.vector_field.proofs.Members.{In, here, there, In-cases, In-filter, any-none, Contains-In}
-use Rattle.vector_field.proofs.Lined.{Lined, lined-two}
-use Rattle.vector_field.proofs.Valid.{Goes, lined-from, unused-In}
+use Rattle.number_lists.specs.Members.{In, here, there}
+use Rattle.vector_field.proofs.CallerLemmas.{Lined, lined-two, Goes, lined-from, unused-In}
 use Rattle.split_laws.specs.declared.kind.Kind.{Kind}
 use Rattle.split_laws.specs.declared.kind.Kind.TheVariants.{Critical, Lower, Upper}
 use Rattle.split_laws.specs.declared.matching.Match.{Match}
@@ -25,6 +24,8 @@ use Rattle.field_matrix.specs.Rows.{Rows}
 use Rattle.split_laws.specs.Solutions.{IsReducedBy}
 use Rattle.std.proofs.lemmas.List.{length-append, get_or_append_left}
 use Rattle.std.proofs.Math.Seq.{get_or-append_seam}
+use Rattle.critical_complex.proofs.KindLemmas.{critical_no_lower, critical_no_upper, lower_no_upper, upper_no_lower}
+use Rattle.critical_complex.proofs.SignedLemmas.{sign_below}
 use Rattle.critical_complex.specs.Reaches.{AreDegrees}
 use Rattle.critical_complex.specs.Signed.{sign_element, signed_entry, signed_rows, match_of, matches_of, IsKind, AreKinds, IsStageOf}
 
@@ -46,10 +47,7 @@ module _ (dim : ℕ) where
       by : (b : Bool) → eqb q.dim dim ≡ b → (p ≡ q) ⊎ In p ps → (In p ps → HasLower (matches_of ps dim) i) → HasLower (map match_of (cond b (q ∷ filter (λ (r : Pair). eqb r.dim dim) ps) (filter (λ (r : Pair). eqb r.dim dim) ps))) i
       by true g (inl s) r = inl (ap (λ (r : Pair). r.lower - 1) (sym s) ∙ e)
       by true g (inr n) r = inr (r n)
-      by false g (inl s) r = absurd (not_both (sym g ∙ eq-eqb q.dim dim (ap (λ (r : Pair). r.dim) (sym s) ∙ d)))
-        where
-          not_both : false ≡ true → ⊥
-          not_both z = cc
+      by false g (inl s) r = absurd (false≢true (sym g ∙ eq-eqb q.dim dim (ap (λ (r : Pair). r.dim) (sym s) ∙ d)))
       by false g (inr n) r = r n
 
   upper_in : (ps : List Pair) (p : Pair) (i : ℕ) → In p ps → p.dim ≡ dim → p.upper - 1 ≡ i → HasUpper (matches_of ps dim) i
@@ -59,13 +57,10 @@ module _ (dim : ℕ) where
       by : (b : Bool) → eqb q.dim dim ≡ b → (p ≡ q) ⊎ In p ps → (In p ps → HasUpper (matches_of ps dim) i) → HasUpper (map match_of (cond b (q ∷ filter (λ (r : Pair). eqb r.dim dim) ps) (filter (λ (r : Pair). eqb r.dim dim) ps))) i
       by true g (inl s) r = inl (ap (λ (r : Pair). r.upper - 1) (sym s) ∙ e)
       by true g (inr n) r = inr (r n)
-      by false g (inl s) r = absurd (not_both (sym g ∙ eq-eqb q.dim dim (ap (λ (r : Pair). r.dim) (sym s) ∙ d)))
-        where
-          not_both : false ≡ true → ⊥
-          not_both z = cc
+      by false g (inl s) r = absurd (false≢true (sym g ∙ eq-eqb q.dim dim (ap (λ (r : Pair). r.dim) (sym s) ∙ d)))
       by false g (inr n) r = r n
 
-record Incident (space : List (List (List ℕ))) (p : Pair) : Type 0 where
+record Incident (space : Layers) (p : Pair) : Type 0 where
   small : p.dim < 3
   low : 1 ≤ p.lower
   high : p.lower ≤ count space p.dim
@@ -73,7 +68,7 @@ record Incident (space : List (List (List ℕ))) (p : Pair) : Type 0 where
   high_up : p.upper ≤ count space (p.dim + 1)
   facet : holds (facets_of space (p.dim + 1) p.upper) p.lower ≡ true
 
-incident : (space : List (List (List ℕ))) (p : Pair) → is_incident space p ≡ true → Incident space p
+incident : (space : Layers) (p : Pair) → is_incident space p ≡ true → Incident space p
 incident space p h =
     let a = and_parts (nat_lt p.dim 3) (nat_le 1 p.lower && (nat_le p.lower (count space p.dim) && (nat_le 1 p.upper && (nat_le p.upper (count space (p.dim + 1)) && holds (facets_of space (p.dim + 1) p.upper) p.lower)))) h in
     let b = and_parts (nat_le 1 p.lower) (nat_le p.lower (count space p.dim) && (nat_le 1 p.upper && (nat_le p.upper (count space (p.dim + 1)) && holds (facets_of space (p.dim + 1) p.upper) p.lower))) a.1 in
@@ -82,7 +77,7 @@ incident space p h =
     let e = and_parts (nat_le p.upper (count space (p.dim + 1))) (holds (facets_of space (p.dim + 1) p.upper) p.lower) d.1 in
     record { small = ltb-true p.dim 3 a.0; low = leb-true 1 p.lower b.0; high = leb-true p.lower (count space p.dim) c.0; low_up = leb-true 1 p.upper d.0; high_up = leb-true p.upper (count space (p.dim + 1)) e.0; facet = e.1 }
 
-module _ (F : Ops) (L : IsField F) (space : List (List (List ℕ))) (negative : ℕ → ℕ → ℕ → Bool) (dim : ℕ) where
+module _ (F : Ops) (L : IsField F) (space : Layers) (negative : ℕ → ℕ → ℕ → Bool) (dim : ℕ) where
   rows : List (List ℕ)
   rows = signed_rows F space negative dim
 
@@ -101,15 +96,11 @@ module _ (F : Ops) (L : IsField F) (space : List (List (List ℕ))) (negative : 
       one_is_none z = omega (arith, z)
   sign_some false e = omega (arith, e)
 
-  sign_below : (b : Bool) → sign_element F b < F.size
-  sign_below true = L.neg_below 1
-  sign_below false = L.one_below
-
   entry_below : (l u : ℕ) → signed_entry F space negative dim l u < F.size
   entry_below l u = by (holds (facets_of space (dim + 1) u) l)
     where
       by : (b : Bool) → cond b (sign_element F (negative (dim + 1) u l)) 0 < F.size
-      by true = sign_below (negative (dim + 1) u l)
+      by true = sign_below F L (negative (dim + 1) u l)
       by false = zero_below F L
 
   row_vector : (l : ℕ) (xs : List ℕ) (n : ℕ) → length xs ≡ n → IsVector F n (map (signed_entry F space negative dim l) xs)
@@ -176,7 +167,7 @@ module _ (F : Ops) (L : IsField F) (space : List (List (List ℕ))) (negative : 
     lower_or i Lower h = inr refl
     lower_or i Upper h =
         inl (all_matches dim (λ (q : Match). i ≢ q.lower) pairs
-        (λ p m d e. conflict p (pair h.0 h.1 (i + 1)) m (Contains-In h.3) (d ∙ h.2) (let low : 1 ≤ p.lower = (fact p m).low in omega (arith, e))))
+        (λ p m d e. conflict p (pair h.0 h.1 (i + 1)) m h.3 (d ∙ h.2) (let low : 1 ≤ p.lower = (fact p m).low in omega (arith, e))))
 
     upper_or : (j : ℕ) (k : Kind) → IsKind pairs (dim + 1) (j + 1) k → AllByRecursion (λ (q : Match). j ≢ q.upper) (matches_of pairs dim) ⊎ (k ≡ Upper)
     upper_or j Critical h =
@@ -184,29 +175,17 @@ module _ (F : Ops) (L : IsField F) (space : List (List (List ℕ))) (negative : 
     upper_or j Upper h = inr refl
     upper_or j Lower h =
         inl (all_matches dim (λ (q : Match). j ≢ q.upper) pairs
-        (λ p m d e. conflict (pair (dim + 1) (j + 1) h.0) p (Contains-In h.1) m (ap (λ (n : ℕ). n + 1) (sym d)) (let low : 1 ≤ p.upper = (fact p m).low_up in omega (arith, e))))
+        (λ p m d e. conflict (pair (dim + 1) (j + 1) h.0) p h.1 m (ap (λ (n : ℕ). n + 1) (sym d)) (let low : 1 ≤ p.upper = (fact p m).low_up in omega (arith, e))))
 
     has_lower : (i : ℕ) (k : Kind) → IsKind pairs dim (i + 1) k → k ≡ Lower → HasLower (matches_of pairs dim) i
-    has_lower i Critical h e = absurd (no e)
-      where
-        no : Critical ≡ Lower → ⊥
-        no z = cc
-    has_lower i Lower h e = lower_in dim pairs (pair dim (i + 1) h.0) i (Contains-In h.1) refl (omega arith)
-    has_lower i Upper h e = absurd (no e)
-      where
-        no : Upper ≡ Lower → ⊥
-        no z = cc
+    has_lower i Critical h e = absurd (critical_no_lower e)
+    has_lower i Lower h e = lower_in dim pairs (pair dim (i + 1) h.0) i h.1 refl (omega arith)
+    has_lower i Upper h e = absurd (upper_no_lower e)
 
     has_upper : (j : ℕ) (k : Kind) → IsKind pairs (dim + 1) (j + 1) k → k ≡ Upper → HasUpper (matches_of pairs dim) j
-    has_upper j Critical h e = absurd (no e)
-      where
-        no : Critical ≡ Upper → ⊥
-        no z = cc
-    has_upper j Lower h e = absurd (no e)
-      where
-        no : Lower ≡ Upper → ⊥
-        no z = cc
-    has_upper j Upper h e = upper_in dim pairs (pair h.0 h.1 (j + 1)) j (Contains-In h.3) (let d : dim + 1 ≡ h.0 + 1 = h.2 in omega arith) (omega arith)
+    has_upper j Critical h e = absurd (critical_no_upper e)
+    has_upper j Lower h e = absurd (lower_no_upper e)
+    has_upper j Upper h e = upper_in dim pairs (pair h.0 h.1 (j + 1)) j h.3 (let d : dim + 1 ≡ h.0 + 1 = h.2 in omega arith) (omega arith)
 
     pub matching : (ts us : List Kind) → AreKinds pairs dim (count space dim) ts → AreKinds pairs (dim + 1) (count space (dim + 1)) us → IsMatching F (length ts) (length us) (signed_rows F space negative dim) ts us (matches_of pairs dim)
     matching ts us a b = record {
@@ -253,7 +232,7 @@ first_kinds pairs n ts a =
     omega arith)
 
 -- the degrees of a signed set with a valid field
-pub splitting : (F : Ops) (L : IsField F) (space : List (List (List ℕ))) (negative : ℕ → ℕ → ℕ → Bool) (pairs : List Pair) (stages now : List Stage) → IsValid space pairs → IsReductionOf F space negative pairs stages → now ≡ stages → IsSplitting F now
+pub splitting : (F : Ops) (L : IsField F) (space : Layers) (negative : ℕ → ℕ → ℕ → Bool) (pairs : List Pair) (stages now : List Stage) → IsValid space pairs → IsReductionOf F space negative pairs stages → now ≡ stages → IsSplitting F now
 splitting F L space negative pairs stages now V r e =
     subst (IsSplitting F) (sym e)
     (record {
@@ -265,7 +244,7 @@ splitting F L space negative pairs stages now V r e =
     })
 
 -- each two of them, one after the other
-pub degrees_of : (F : Ops) (space : List (List (List ℕ))) (negative : ℕ → ℕ → ℕ → Bool) (pairs : List Pair) (stages now : List Stage) → IsReductionOf F space negative pairs stages → now ≡ stages
+pub degrees_of : (F : Ops) (space : Layers) (negative : ℕ → ℕ → ℕ → Bool) (pairs : List Pair) (stages now : List Stage) → IsReductionOf F space negative pairs stages → now ≡ stages
     → (degree : ℕ) → degree < 4 → AreDegrees F space negative degree (stage_at now degree) (stage_at now (suc degree))
 degrees_of F space negative pairs stages now r e degree lt =
     subst (λ (xs : List Stage). AreDegrees F space negative degree (stage_at xs degree) (stage_at xs (suc degree))) (sym e)
@@ -273,7 +252,7 @@ degrees_of F space negative pairs stages now r e degree lt =
     let b = r.each (suc degree) (omega arith) in
     record { rows = a.rows; cells = a.kinds.long; above = b.kinds.long ∙ ap (count space) (let g : suc degree ≡ degree + 1 = omega arith in g) })
 
-pub stages_more : (F : Ops) (space : List (List (List ℕ))) (negative : ℕ → ℕ → ℕ → Bool) (pairs : List Pair) (stages now : List Stage) (s : Stage) (i : ℕ) → length stages ≡ i
+pub stages_more : (F : Ops) (space : Layers) (negative : ℕ → ℕ → ℕ → Bool) (pairs : List Pair) (stages now : List Stage) (s : Stage) (i : ℕ) → length stages ≡ i
     → ((degree : ℕ) → degree < i → IsStageOf F space negative pairs degree (stage_at stages degree)) → IsStageOf F space negative pairs i s → now ≡ stages ++ s ∷ []
     → (length now ≡ i + 1) × ((degree : ℕ) → degree < i + 1 → IsStageOf F space negative pairs degree (stage_at now degree))
 stages_more F space negative pairs stages now s i l before last e = (

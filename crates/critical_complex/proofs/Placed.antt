@@ -103,11 +103,3 @@ part_step ts x w now i number v lt lx lw h e g s j lj =
       | inl b ↦ ap (λ (k : ℕ). get_or (set w i v) k 0) b ∙ (get_or-set_same w i v 0 (omega arith) ∙ (g ∙ (ap (λ (k : ℕ). get_or x k 0) (let a : number - 1 ≡ place_of ts i = omega arith in a) ∙ (part_at ts x i lx lt ∙ ap (λ (k : ℕ). get_or (part ts x) k 0) (sym b)))))
       | inr b ↦ get_or-set_other w i j v 0 b ∙ h j (omega arith)
     ]
-
-pub same_list : (xs ys : List ℕ) → length xs ≡ length ys → ((i : ℕ) → i < length xs → get_or xs i 0 ≡ get_or ys i 0) → xs ≡ ys
-same_list [] [] l h = refl
-same_list [] (y ∷ ys) l h = absurd (omega arith)
-same_list (x ∷ xs) [] l h = absurd (omega arith)
-same_list (x ∷ xs) (y ∷ ys) l h =
-    let here : x ≡ y = h 0 (omega arith) in
-    ap (λ (z : ℕ). z ∷ xs) here ∙ ap (λ (zs : List ℕ). y ∷ zs) (same_list xs ys (omega arith) (λ i lt. h (suc i) (omega arith)))

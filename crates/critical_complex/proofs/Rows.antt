@@ -1,53 +1,31 @@
 -- A row of zeros becomes the coboundary of a cochain, cell by cell of those that were found.
 use Rattle.std.proofs.Common.{◌≡◌, ◌≢◌, ◌⊎◌, inl, inr, ℕ, ◌+◌, ◌<◌, ◌≤◌, List, [], Bool, true, false, ◌||◌, eqb, length, length-set, take, get_or, set, get_or-set_same, get_or-set_other, refl, ap, sym, ◌∙◌, arith, subst}
-use Rattle.std.proofs.lemmas.Bool.{cases_eq, cases_Bool, false≢true, eq-eqb, ne_eqb}
-use Rattle.std.proofs.lemmas.List.{take_all}
+use Rattle.std.proofs.Math.Bool.{or-false}
+use Rattle.std.proofs.lemmas.Bool.{cases_eq, cases_Bool, false≢true, eq-eqb, ne_eqb, or_right}
+use Rattle.std.proofs.lemmas.Grind.{same_number_lists}
+use Rattle.std.proofs.lemmas.List.{take_all, set-set}
 use Rattle.small_field.specs.Field.{Ops, IsField}
 use Rattle.linear_laws.specs.Vectors.{dot, column, combination, row_at, IsMatrix, IsVector}
 use Rattle.linear_laws.proofs.CallerLemmas.{all_at}
 use Rattle.face_poset.specs.Words.{holds}
-use Rattle.number_lists.proofs.CallerLemmas.{holds_more}
+use Rattle.number_lists.proofs.CallerLemmas.{holds_more, In-holds}
 use Rattle.split_laws.specs.declared.kind.Kind.{Kind}
-use Rattle.split_laws.specs.declared.kind.Kind.TheVariants.{Critical, Lower, Upper}
+use Rattle.split_laws.specs.declared.kind.Kind.TheVariants.{Critical}
 use Rattle.split_laws.specs.Kinds.{criticals, part}
 use Rattle.split_laws.specs.Pairs.{kind_at}
 use Rattle.split_laws.specs.Solutions.{IsReducedBy}
 use Rattle.critical_complex.specs.Stages.{Stage, IsPaired, place_of}
 use Rattle.critical_complex.specs.Reaches.{AreIndexes, IsFound}
-use Rattle.critical_complex.proofs.Placed.{place_below, same_list}
+use Rattle.critical_complex.proofs.KindLemmas.{is_critical}
+use Rattle.critical_complex.proofs.Placed.{place_below}
 use Rattle.critical_complex.proofs.Indexed.{place_kind, place_one}
-use Rattle.critical_complex.proofs.Filling.{set_twice, value_is, target_long}
-
-or_true : (b c : Bool) → c ≡ true → (b || c) ≡ true
-or_true true c e = refl
-or_true false c e = e
-
-or_false : (b c : Bool) → c ≡ false → (b || c) ≡ b
-or_false true c e = refl
-or_false false c e = e
+use Rattle.critical_complex.proofs.Filling.{value_is, target_long}
 
 seen_here : (found : List ℕ) (i n : ℕ) → i < length found → get_or found i 0 ≡ n → holds (take (i + 1) found) n ≡ true
-seen_here found i n l e = holds_more found i n l ∙ or_true (holds (take i found) n) (eqb (get_or found i 0) n) (eq-eqb (get_or found i 0) n e)
+seen_here found i n l e = holds_more found i n l ∙ or_right (holds (take i found) n) (eqb (get_or found i 0) n) (eq-eqb (get_or found i 0) n e)
 
 seen_other : (found : List ℕ) (i n : ℕ) → i < length found → get_or found i 0 ≢ n → holds (take (i + 1) found) n ≡ holds (take i found) n
-seen_other found i n l ne = holds_more found i n l ∙ or_false (holds (take i found) n) (eqb (get_or found i 0) n) (ne_eqb (get_or found i 0) n ne)
-
-not_critical : {t : Kind} → Lower ≡ t → t ≡ Critical → ⊥
-not_critical e g = lower_no_critical (e ∙ g)
-  where
-    lower_no_critical : Lower ≡ Critical → ⊥
-    lower_no_critical z = cc
-
-not_critical_upper : {t : Kind} → Upper ≡ t → t ≡ Critical → ⊥
-not_critical_upper e g = upper_no_critical (e ∙ g)
-  where
-    upper_no_critical : Upper ≡ Critical → ⊥
-    upper_no_critical z = cc
-
-is_critical : (t : Kind) → (t ≡ Critical) ⊎ (t ≡ Critical → ⊥)
-is_critical Critical = inl refl
-is_critical Lower = inr (λ e. not_critical refl e)
-is_critical Upper = inr (λ e. not_critical_upper refl e)
+seen_other found i n l ne = holds_more found i n l ∙ (ap (λ b. holds (take i found) n || b) (ne_eqb (get_or found i 0) n ne) ∙ or-false (holds (take i found) n))
 
 module _ (F : Ops) (L : IsField F) (s next : Stage) (P : IsPaired F s next) (rows0 : List (List ℕ)) (row : ℕ) (x : List ℕ) where
   -- the row holds the coboundary at the cells that were seen, and zero elsewhere
@@ -75,7 +53,7 @@ module _ (F : Ops) (L : IsField F) (s next : Stage) (P : IsPaired F s next) (row
         let seen : (c : ℕ) → c ≡ col → holds (take (i + 1) found) (place_of next.kinds c + 1) ≡ true =
         λ c z. seen_here found i (place_of next.kinds c + 1) l (e ∙ ap (λ (k : ℕ). k + 1) (sym a.1 ∙ ap (place_of next.kinds) (sym z))) in
         record {
-          others = g ∙ (ap (λ (z : List (List ℕ)). set z row r) h.others ∙ (set_twice rows0 row (get_or rows row []) r ∙ ap (set rows0 row) (sym at)));
+          others = g ∙ (ap (λ (z : List (List ℕ)). set z row r) h.others ∙ (set-set rows0 row (get_or rows row []) r ∙ ap (set rows0 row) (sym at)));
           long = ap (λ (z : List ℕ). length z) at ∙ (length-set (get_or rows row []) col v ∙ h.long);
           put = λ c lk m. ap (λ (z : List ℕ). get_or z c 0) at ∙ elim (cases_eq c col) [
             | inl b ↦ ap (λ (k : ℕ). get_or r k 0) b ∙ (get_or-set_same (get_or rows row []) col v 0 lc ∙ (value ∙ ap (λ (k : ℕ). get_or target k 0) (sym b)))
@@ -104,7 +82,7 @@ module _ (F : Ops) (L : IsField F) (s next : Stage) (P : IsPaired F s next) (row
       let all : take i found ≡ found = take_all i found l in
       let lt : length target ≡ criticals next.kinds = target_long F L (length next.kinds) s.rows next.kinds x P.matching.matrix refl in
       h.others
-      ∙ ap (set rows0 row) (same_list (get_or rows row []) target (h.long ∙ sym lt)
+      ∙ ap (set rows0 row) (same_number_lists (get_or rows row []) target (h.long ∙ sym lt)
       (λ c lc.
       let lk : c < criticals next.kinds = subst (λ (n : ℕ). c < n) h.long lc in
       let j : ℕ = place_of next.kinds c in
@@ -112,7 +90,7 @@ module _ (F : Ops) (L : IsField F) (s next : Stage) (P : IsPaired F s next) (row
         | inl m ↦ h.put c lk (ap (λ (ys : List ℕ). holds ys (j + 1)) all ∙ m)
         | inr m ↦
             h.none c lk (ap (λ (ys : List ℕ). holds ys (j + 1)) all ∙ m)
-            ∙ (sym (elim (f j (place_below next.kinds c lk) (place_kind next.kinds c lk)) [ inl k ↦ absurd (false≢true (sym m ∙ k)) | inr k ↦ k ]) ∙ value_is F L (length next.kinds) s.rows next.kinds x c P.matching.matrix refl lk)
+            ∙ (sym (elim (f j (place_below next.kinds c lk) (place_kind next.kinds c lk)) [ inl k ↦ absurd (false≢true (sym m ∙ In-holds k)) | inr k ↦ k ]) ∙ value_is F L (length next.kinds) s.rows next.kinds x c P.matching.matrix refl lk)
       ]))
 
 -- where there is no column
@@ -124,7 +102,7 @@ no_columns F L s next P rows cols e z a l = record {
   each = λ i x li _.
       let lr : i < length rows = subst (λ (n : ℕ). i < n) (sym l) li in
       let v : IsVector F cols (row_at rows i) = all_at (IsVector F cols) rows i [] lr a in
-      same_list (row_at rows i) (part next.kinds (combination F (length next.kinds) x s.rows)) (v.long ∙ (e ∙ sym (target_long F L (length next.kinds) s.rows next.kinds x P.matching.matrix refl)))
+      same_number_lists (row_at rows i) (part next.kinds (combination F (length next.kinds) x s.rows)) (v.long ∙ (e ∙ sym (target_long F L (length next.kinds) s.rows next.kinds x P.matching.matrix refl)))
       (λ k lk. absurd (not_below k (subst (λ (n : ℕ). k < n) (v.long ∙ z) lk)));
 }
   where

@@ -1,12 +1,12 @@
 -- The coboundary of a signed set by its columns.
 use Rattle.std.proofs.Common.{◌≡◌, ℕ, suc, ◌+◌, ◌-◌, ◌≤◌, ◌<◌, List, [], ◌∷◌, ◌++◌, Bool, true, false, cond, ◌||◌, eqb, length, map, take, get_or, refl, ap, sym, ◌∙◌, arith, subst, All}
 use Rattle.std.proofs.lemmas.Bool.{eqb-true}
-use Rattle.std.proofs.lemmas.List.{take_more, length-take-le}
+use Rattle.std.proofs.lemmas.List.{take_more, length-take-le, length-map}
 use Rattle.std.proofs.lemmas.List.FromFn.{map-range_with_len_more, get_or-range_with_len, length-range_with_len}
 use Rattle.small_field.specs.Field.{Ops, IsField}
 use Rattle.face_poset.specs.Words.{upto, holds}
-use Rattle.face_poset.specs.Poset.{count, facets_of, IsSpace, IsCell}
-use Rattle.number_lists.proofs.CallerLemmas.{increasing_head, increasing_tail, holds-none}
+use Rattle.face_poset.specs.Poset.{Layers, count, facets_of, IsSpace, IsCell}
+use Rattle.number_lists.proofs.CallerLemmas.{increasing_head, increasing_tail, holds-none, map_agree}
 use Rattle.std.specs.List.Sorted.{IsStrictlyIncreasing}
 use Rattle.split_laws.specs.declared.kind.Kind.{Kind}
 use Rattle.split_laws.specs.declared.kind.Kind.TheVariants.{Critical, Lower, Upper}
@@ -18,10 +18,6 @@ use Rattle.critical_complex.specs.Signed.{sign_element, signed_entry, signed_row
 pub map_more : {X : Type 0} (f : ℕ → X) (i : ℕ) (xs now : List X) (y : X) → xs ≡ map f (upto i) → now ≡ xs ++ y ∷ [] → y ≡ f (i + 1) → now ≡ map f (upto (i + 1))
 map_more {X} f i xs now y h e g =
     e ∙ (ap (λ (z : List X). z ++ y ∷ []) h ∙ (ap (λ (z : X). map f (upto i) ++ z ∷ []) g ∙ sym (map-range_with_len_more f 1 i (i + 1) (let k : 1 + i ≡ i + 1 = omega arith in k))))
-
-map_map_same : (f g : ℕ → List ℕ) → ((a : ℕ) → f a ≡ g a) → (xs : List ℕ) → map f xs ≡ map g xs
-map_map_same f g h [] = refl
-map_map_same f g h (x ∷ xs) = ap (λ (y : List ℕ). y ∷ map f xs) (h x) ∙ ap (λ (r : List (List ℕ)). g x ∷ r) (map_map_same f g h xs)
 
 -- the coefficient of a cell where each cell has its own
 coefficient_map : (h : ℕ → ℕ) (fs : List ℕ) (a : ℕ) → coefficient fs (map h fs) a ≡ cond (holds fs a) (h a) 0
@@ -41,7 +37,7 @@ row_map fac h a (b ∷ xs) =
     ap (λ (y : ℕ). y ∷ row_from (map fac xs) (map (λ c. map (h c) (fac c)) xs) a) (coefficient_map (h b) (fac b) a) ∙ ap (λ (r : List ℕ). cond (holds (fac b) a) (h b a) 0 ∷ r) (row_map fac h a xs)
 
 module _ (F : Ops) (L : IsField F) where
-  sign_below : (b : Bool) → sign_element F b < F.size
+  pub sign_below : (b : Bool) → sign_element F b < F.size
   sign_below true = L.neg_below 1
   sign_below false = L.one_below
 
@@ -60,15 +56,12 @@ module _ (F : Ops) (L : IsField F) where
   columns_from n fac h [] k = tt
   columns_from n fac h (x ∷ xs) k = (k 0 (omega arith), columns_from n fac h xs (λ i lt. k (suc i) (omega arith)))
 
-  module _ (space : List (List (List ℕ))) (negative : ℕ → ℕ → ℕ → Bool) (dim : ℕ) where
-    pub signs : ℕ → ℕ → ℕ
-    signs cell facet = sign_element F (negative (dim + 1) cell facet)
-
+  module _ (space : Layers) (negative : ℕ → ℕ → ℕ → Bool) (dim : ℕ) where
     pub rows_signed : rows_from (count space dim) (map (facets_of space (dim + 1)) (upto (count space (dim + 1)))) (map (λ cell. map (λ facet. sign_element F (negative (dim + 1) cell facet)) (facets_of space (dim + 1) cell)) (upto (count space (dim + 1)))) ≡ signed_rows F space negative dim
     rows_signed =
-        map_map_same (row_from (map (facets_of space (dim + 1)) (upto (count space (dim + 1)))) (map (λ cell. map (λ facet. sign_element F (negative (dim + 1) cell facet)) (facets_of space (dim + 1) cell)) (upto (count space (dim + 1)))))
-        (λ lower. map (signed_entry F space negative dim lower) (upto (count space (dim + 1))))
-        (λ a. row_map (facets_of space (dim + 1)) (λ cell facet. sign_element F (negative (dim + 1) cell facet)) a (upto (count space (dim + 1)))) (upto (count space dim))
+        map_agree (row_from (map (facets_of space (dim + 1)) (upto (count space (dim + 1)))) (map (λ cell. map (λ facet. sign_element F (negative (dim + 1) cell facet)) (facets_of space (dim + 1) cell)) (upto (count space (dim + 1)))))
+        (λ lower. map (signed_entry F space negative dim lower) (upto (count space (dim + 1)))) (upto (count space dim))
+        (λ a. row_map (facets_of space (dim + 1)) (λ cell facet. sign_element F (negative (dim + 1) cell facet)) a (upto (count space (dim + 1))))
 
     facet_cell : IsSpace space → (b : ℕ) → 1 ≤ b → b ≤ count space (dim + 1) → IsCell (count space dim) (facets_of space (dim + 1) b)
     facet_cell s b low high = subst (λ (k : ℕ). IsCell (count space k) (facets_of space (dim + 1) b)) (let e : dim + 1 - 1 ≡ dim = omega arith in e) (s.cells (dim + 1) (omega arith) (b - 1) [] (omega arith))
@@ -103,12 +96,8 @@ module _ (F : Ops) (L : IsField F) where
         (q ∙ ap (λ (n : ℕ). map (λ cell. map (λ facet. sign_element F (negative (dim + 1) cell facet)) (facets_of space (dim + 1) cell)) (upto n)) e)
         ∙ rows_signed))
 
-pub cols_final : (space : List (List (List ℕ))) (dim m : ℕ) (cells : List (List ℕ)) → m ≡ count space (dim + 1) → cells ≡ map (facets_of space (dim + 1)) (upto m) → length cells ≡ count space (dim + 1)
-cols_final space dim m cells e p = ap (λ (x : List (List ℕ)). length x) p ∙ (map_long (facets_of space (dim + 1)) (upto m) ∙ (length-range_with_len 1 m ∙ e))
-  where
-    map_long : (f : ℕ → List ℕ) (xs : List ℕ) → length (map f xs) ≡ length xs
-    map_long f [] = refl
-    map_long f (x ∷ xs) = ap suc (map_long f xs)
+pub cols_final : (space : Layers) (dim m : ℕ) (cells : List (List ℕ)) → m ≡ count space (dim + 1) → cells ≡ map (facets_of space (dim + 1)) (upto m) → length cells ≡ count space (dim + 1)
+cols_final space dim m cells e p = ap (λ (x : List (List ℕ)). length x) p ∙ (length-map (upto m) (facets_of space (dim + 1)) ∙ (length-range_with_len 1 m ∙ e))
 
 -- one kind more
 critical_snoc : (n m : ℕ) (ts : List Kind) (t : Kind) → m ≡ n + length ts → critical_from n (ts ++ t ∷ []) ≡ critical_from n ts ++ critical_from m (t ∷ [])

@@ -1,6 +1,7 @@
 -- The extension from one critical cell, settled along what it meets.
 use Rattle.std.proofs.Common.{◌≡◌, ◌≢◌, ◌⊎◌, inl, inr, ℕ, zero, suc, ◌<◌, List, [], ◌∷◌, length, length-set, map, replicate, get_or, set, get_or-set_same, get_or-set_other, refl, ap, sym, ◌∙◌, arith, subst, All}
 use Rattle.std.proofs.lemmas.Bool.{cases_eq}
+use Rattle.std.proofs.lemmas.Grind.{same_number_lists}
 use Rattle.std.proofs.lemmas.Simd.{length-replicate, get_or-replicate}
 use Rattle.std.specs.List.{AllByRecursion}
 use Rattle.std.specs.List.Sorted.{IsStrictlyIncreasing}
@@ -9,9 +10,9 @@ use Rattle.small_field.proofs.CallerLemmas.{zero_below, mul_zero, zero_mul}
 use Rattle.linear_laws.specs.Marks.{mark}
 use Rattle.linear_laws.specs.Vectors.{dot, column, combination, entry}
 use Rattle.small_field.specs.Values.{AreElements}
-use Rattle.linear_laws.proofs.CallerLemmas.{column_entry, entry_combination, combination-vector, zeros-elements}
-use Rattle.number_lists.proofs.CallerLemmas.{increasing_head, increasing_tail}
-use Rattle.vector_field.proofs.Members.{In, In-Contains}
+use Rattle.linear_laws.proofs.CallerLemmas.{all_at, all_set, column_entry, entry_combination, combination-vector, zeros-elements}
+use Rattle.number_lists.specs.Members.{In}
+use Rattle.number_lists.proofs.CallerLemmas.{increasing_head, increasing_tail, In-Contains}
 use Rattle.split_laws.specs.declared.kind.Kind.{Kind}
 use Rattle.split_laws.specs.declared.kind.Kind.TheVariants.{Critical, Lower, Upper}
 use Rattle.split_laws.specs.declared.matching.Match.{Match}
@@ -20,25 +21,15 @@ use Rattle.split_laws.specs.Pairs.{Triangular, HasLower, HasUpper, kind_at, corr
 use Rattle.split_laws.specs.Solutions.{IsExtension}
 use Rattle.split_laws.proofs.CallerLemmas.{part-zeros, none-zeros, settle_long, settle_meets, settle_outside}
 use Rattle.critical_complex.specs.Stages.{Stage, IsPaired, place_of}
-use Rattle.critical_complex.specs.Reaches.{cleared, IsFound, IsReach, Misses}
+use Rattle.critical_complex.specs.Reaches.{cleared, IsFound, IsReach, IsSettled, Misses}
 use Rattle.critical_complex.specs.Units.{pair_at}
 use Rattle.critical_complex.specs.Units.{no_match}
-use Rattle.critical_complex.proofs.Pairwise.{triangular_at}
-use Rattle.critical_complex.proofs.Placed.{place_below, part_set, none_set, same_list}
+use Rattle.critical_complex.proofs.KindLemmas.{critical_no_lower, upper_no_lower}
+use Rattle.critical_complex.proofs.Pairwise.{triangular_at, later_zero}
+use Rattle.critical_complex.proofs.Placed.{place_below, part_set, none_set}
 use Rattle.critical_complex.proofs.Searched.{map_all}
 
 -- ---- some of the pairs, in their order
-
-all_pairs : (P : Match → Type 0) (ps : List Match) (k : ℕ) → AllByRecursion P ps → k < length ps → P (pair_at ps k)
-all_pairs P [] k h lt = absurd (omega arith)
-all_pairs P (p ∷ ps) zero h lt = h.0
-all_pairs P (p ∷ ps) (suc k) h lt = all_pairs P ps k h.1 (omega arith)
-
-later_zero : (rows : List (List ℕ)) (ps : List Match) (i l : ℕ) → Triangular rows ps → i < l → l < length ps → entry rows ((pair_at ps l).lower) ((pair_at ps i).upper) ≡ 0
-later_zero rows [] i l t lt ll = absurd (omega arith)
-later_zero rows (p ∷ ps) i zero t lt ll = absurd (omega arith)
-later_zero rows (p ∷ ps) zero (suc l) t lt ll = all_pairs (λ q. entry rows q.lower p.upper ≡ 0) ps l t.2 (omega arith)
-later_zero rows (p ∷ ps) (suc i) (suc l) t lt ll = later_zero rows ps i l t.3 (omega arith) (omega arith)
 
 within_in : (n : ℕ) (order : List ℕ) (k : ℕ) → All (λ i. i < n) order → In k order → k < n
 within_in n order k h m = let c = In-Contains m in subst (λ (x : ℕ). x < n) c.2 (h c.0 k c.1)
@@ -60,7 +51,7 @@ chosen_triangular rows ps (k ∷ order) t r w =
 
 -- all of the pairs have it, so some of them
 pub chosen_all : (P : Match → Type 0) (ps : List Match) (order : List ℕ) → AllByRecursion P ps → All (λ k. k < length ps) order → AllByRecursion P (map (pair_at ps) order)
-chosen_all P ps order h w = map_all P ps order (λ k m. all_pairs P ps k h (within_in (length ps) order k w m))
+chosen_all P ps order h w = map_all P ps order (λ k m. all_at P ps k no_match (within_in (length ps) order k w m) h)
 
 pub triangular_lowers : (rows : List (List ℕ)) (ps : List Match) → Triangular rows ps → AllByRecursion (λ p. p.lower < length rows) ps
 triangular_lowers rows [] t = tt
@@ -89,12 +80,6 @@ at_upper P (q ∷ qs) j h (inr g) = at_upper P qs j h.1 g
 zero_or : {k : Kind} (x y : ℕ) → (k ≡ Lower → ⊥) → (x ≡ y) ⊎ (k ≡ Lower) → x ≡ y
 zero_or x y other (inl e) = e
 zero_or x y other (inr e) = absurd (other e)
-
-critical_no_lower : Critical ≡ Lower → ⊥
-critical_no_lower e = cc
-
-upper_no_lower : Upper ≡ Lower → ⊥
-upper_no_lower e = cc
 
 part_agrees : (ts : List Kind) (x y : List ℕ) → length x ≡ length ts → length y ≡ length ts → ((i : ℕ) → i < length ts → (get_or x i 0 ≡ get_or y i 0) ⊎ (kind_at ts i ≡ Lower)) → part ts x ≡ part ts y
 part_agrees [] x y l r h = refl
@@ -141,17 +126,12 @@ cleared_lower (q ∷ qs) x i lt (inl e) =
     (ap (λ (k : ℕ). get_or (set x q.lower 0) k 0) (sym e) ∙ get_or-set_same x q.lower 0 0 (subst (λ (k : ℕ). k < length x) (sym e) lt))
 cleared_lower (q ∷ qs) x i lt (inr h) = cleared_lower qs (set x q.lower 0) i (subst (λ (n : ℕ). i < n) (sym (length-set x q.lower 0)) lt) h
 
-set_below : (k : Ops) (xs : List ℕ) (i v : ℕ) → v < k.size → AreElements k xs → AreElements k (set xs i v)
-set_below k [] i v l h = h
-set_below k (x ∷ xs) zero v l h = (l, h.1)
-set_below k (x ∷ xs) (suc i) v l h = (h.0, set_below k xs i v l h.1)
-
 module _ (F : Ops) (L : IsField F) where
   settle_below : (rows : List (List ℕ)) (t : List ℕ) (qs : List Match) (y : List ℕ) → AreElements F y → AreElements F (settle F rows t qs y)
   settle_below rows t [] y h = h
   settle_below rows t (q ∷ qs) y h =
       let v : ℕ = F.add (get_or y q.lower 0) (correction F rows t q y) in
-      settle_below rows t qs (set y q.lower v) (set_below F y q.lower v (L.add_below (get_or y q.lower 0) (correction F rows t q y)) h)
+      settle_below rows t qs (set y q.lower v) (all_set (λ x. x < F.size) y q.lower v (L.add_below (get_or y q.lower 0) (correction F rows t q y)) h)
 
   -- where at each place one of the two is zero
   dot_apart : (x y : List ℕ) → ((i : ℕ) → i < length x → (get_or x i 0 ≡ 0) ⊎ (get_or y i 0 ≡ 0)) → dot F x y ≡ 0
@@ -161,17 +141,17 @@ module _ (F : Ops) (L : IsField F) where
       ap (λ (n : ℕ). F.add n (dot F x y)) (elim (h 0 (omega arith)) [ inl e ↦ ap (λ (n : ℕ). F.mul n b) e ∙ zero_mul F L b | inr e ↦ ap (F.mul a) e ∙ mul_zero F L a ])
       ∙ (ap (F.add 0) (dot_apart x y (λ i lt. h (suc i) (omega arith))) ∙ L.zero_add 0 (zero_below F L))
 
-  module _ (s next : Stage) (P : IsPaired F s next) (row place : ℕ) (lr : row < criticals s.kinds) (ep : place ≡ place_of s.kinds row) (found : List ℕ) (qs : List Match) (R : IsReach s next (place_of s.kinds row) found qs) where
+  module _ (s next : Stage) (P : IsPaired F s next) (row : ℕ) (lr : row < criticals s.kinds) (found : List ℕ) (qs : List Match) (R : IsReach s next (place_of s.kinds row) found qs) where
     pub reach_triangular : Triangular s.rows qs
     reach_triangular = subst (Triangular s.rows) (sym R.is) (chosen_triangular s.rows s.pairs R.order P.matching.triangular R.rises R.within)
 
     pub reach_uppers : AllByRecursion (λ (p : Match). p.upper < length next.kinds) qs
     reach_uppers = subst (AllByRecursion (λ (p : Match). p.upper < length next.kinds)) (sym R.is) (chosen_all (λ (p : Match). p.upper < length next.kinds) s.pairs R.order P.matching.uppers R.within)
 
-    pub reach_lowers : (m : ℕ) → m ≡ length s.kinds → AllByRecursion (λ (p : Match). p.lower < m) qs
-    reach_lowers m e = subst (λ (k : ℕ). AllByRecursion (λ (p : Match). p.lower < k) qs) (P.matching.long ∙ sym e) (triangular_lowers s.rows qs reach_triangular)
+    reach_lowers : AllByRecursion (λ (p : Match). p.lower < length s.kinds) qs
+    reach_lowers = subst (λ (k : ℕ). AllByRecursion (λ (p : Match). p.lower < k) qs) P.matching.long (triangular_lowers s.rows qs reach_triangular)
 
-    module _ (x0 x1 x2 zeros : List ℕ) (one : ℕ) (e0 : x0 ≡ replicate (length s.kinds) 0) (eo : one ≡ 1) (e1 : x1 ≡ set x0 place one) (ez : zeros ≡ replicate (length next.kinds) 0) (e2 : x2 ≡ settle F s.rows zeros qs x1) where
+    module _ (x0 x1 x2 zeros : List ℕ) (place one : ℕ) (ep : place ≡ place_of s.kinds row) (e0 : x0 ≡ replicate (length s.kinds) 0) (eo : one ≡ 1) (e1 : x1 ≡ set x0 place one) (ez : zeros ≡ replicate (length next.kinds) 0) (e2 : x2 ≡ settle F s.rows zeros qs x1) where
       start_is : x1 ≡ set (replicate (length s.kinds) 0) (place_of s.kinds row) 1
       start_is = e1 ∙ (ap (λ (y : List ℕ). set y place one) e0 ∙ (ap (λ (k : ℕ). set (replicate (length s.kinds) 0) k one) ep ∙ ap (set (replicate (length s.kinds) 0) (place_of s.kinds row)) eo))
 
@@ -184,7 +164,7 @@ module _ (F : Ops) (L : IsField F) where
       start_other : (i : ℕ) → i < length s.kinds → i ≢ place_of s.kinds row → get_or (set {A = ℕ} (replicate (length s.kinds) 0) (place_of s.kinds row) 1) i 0 ≡ 0
       start_other i li ne = get_or-set_other {A = ℕ} (replicate (length s.kinds) 0) (place_of s.kinds row) i 1 0 ne ∙ get_or-replicate {A = ℕ} (length s.kinds) i 0 0 li
 
-      pub end_long : length x2 ≡ length s.kinds
+      end_long : length x2 ≡ length s.kinds
       end_long = ap (λ (y : List ℕ). length y) end_is ∙ (settle_long F L (length next.kinds) s.rows P.matching.matrix (replicate (length next.kinds) 0) qs (set {A = ℕ} (replicate (length s.kinds) 0) (place_of s.kinds row) 1) ∙ start_long)
 
       end_at : (i : ℕ) → get_or x2 i 0 ≡ get_or (settle F s.rows (replicate (length next.kinds) 0) qs (set {A = ℕ} (replicate (length s.kinds) 0) (place_of s.kinds row) 1)) i 0
@@ -211,7 +191,7 @@ module _ (F : Ops) (L : IsField F) where
             | inr z ↦ inr (column_entry s.rows j i ls ∙ elim z [ inl b ↦ ap (λ (k : ℕ). entry s.rows k j) b ∙ m.0 | inr b ↦ at_lower (λ k. entry s.rows k j ≡ 0) qs i m.1 b ])
           ])
 
-      pub reach_found : IsFound F s next x2 found
+      reach_found : IsFound F s next x2 found
       reach_found j lj e = elim (R.critical j lj e) [ inl h ↦ inl h | inr h ↦ inr (missed j h) ]
 
       met : (j : ℕ) → j < length next.kinds → HasUpper qs j → dot F x2 (column j s.rows) ≡ 0
@@ -230,9 +210,9 @@ module _ (F : Ops) (L : IsField F) where
       end_elements : AreElements F x2
       end_elements =
           subst (AreElements F) (sym end_is)
-          (settle_below s.rows (replicate (length next.kinds) 0) qs (set {A = ℕ} (replicate (length s.kinds) 0) (place_of s.kinds row) 1) (set_below F (replicate (length s.kinds) 0) (place_of s.kinds row) 1 L.one_below (zeros-elements F L (length s.kinds))))
+          (settle_below s.rows (replicate (length next.kinds) 0) qs (set {A = ℕ} (replicate (length s.kinds) 0) (place_of s.kinds row) 1) (all_set (λ x. x < F.size) (replicate (length s.kinds) 0) (place_of s.kinds row) 1 L.one_below (zeros-elements F L (length s.kinds))))
 
-      pub reach_extension : IsExtension F (length s.kinds) (length next.kinds) s.rows s.kinds next.kinds (mark (criticals s.kinds) row) x2
+      reach_extension : IsExtension F (length s.kinds) (length next.kinds) s.rows s.kinds next.kinds (mark (criticals s.kinds) row) x2
       reach_extension = record {
         vector = record { long = end_long; elements = end_elements };
         own = part_agrees s.kinds x2 (set {A = ℕ} (replicate (length s.kinds) 0) (place_of s.kinds row) 1) end_long start_long agrees
@@ -243,21 +223,22 @@ module _ (F : Ops) (L : IsField F) where
       }
 
       -- and all is zero again
-      pub blank_again : (x3 x4 : List ℕ) (none : ℕ) → x3 ≡ cleared qs x2 → none ≡ 0 → x4 ≡ set x3 place none → x4 ≡ replicate (length s.kinds) 0
-      blank_again x3 x4 none e3 en e4 =
+      blank_again : set (cleared qs x2) (place_of s.kinds row) 0 ≡ replicate (length s.kinds) 0
+      blank_again =
           let p : ℕ = place_of s.kinds row in
-          let lp : p < length s.kinds = place_below s.kinds row lr in
           let l3 : length (cleared qs x2) ≡ length s.kinds = cleared_long qs x2 ∙ end_long in
-          e4 ∙ (ap (λ (y : List ℕ). set y place none) e3 ∙ (ap (λ (k : ℕ). set (cleared qs x2) k none) ep ∙ (ap (set (cleared qs x2) p) en
-          ∙ same_list (set (cleared qs x2) p 0) (replicate (length s.kinds) 0) (length-set (cleared qs x2) p 0 ∙ (l3 ∙ sym (length-replicate (length s.kinds) 0)))
+          same_number_lists (set (cleared qs x2) p 0) (replicate (length s.kinds) 0) (length-set (cleared qs x2) p 0 ∙ (l3 ∙ sym (length-replicate (length s.kinds) 0)))
           (λ i li.
           let lk : i < length s.kinds = subst (λ (k : ℕ). i < k) (length-set (cleared qs x2) p 0 ∙ l3) li in
           let l2 : i < length x2 = subst (λ (k : ℕ). i < k) (sym end_long) lk in
           elim (cases_eq i p) [
-            | inl b ↦ ap (λ (k : ℕ). get_or (set (cleared qs x2) p 0) k 0) b ∙ get_or-set_same (cleared qs x2) p 0 0 (subst (λ (k : ℕ). p < k) (sym l3) lp)
+            | inl b ↦ ap (λ (k : ℕ). get_or (set (cleared qs x2) p 0) k 0) b ∙ get_or-set_same (cleared qs x2) p 0 0 (subst (λ (k : ℕ). p < k) (sym l3) (place_below s.kinds row lr))
             | inr b ↦ get_or-set_other (cleared qs x2) p i 0 0 b ∙ elim (support i lk) [
               | inl z ↦ cleared_zero qs x2 i l2 z
               | inr z ↦ elim z [ inl c ↦ absurd (b c) | inr c ↦ cleared_lower qs x2 i l2 c ]
             ]
           ]
-          ∙ sym (get_or-replicate (length s.kinds) i 0 0 lk)))))
+          ∙ sym (get_or-replicate (length s.kinds) i 0 0 lk))
+
+      pub reach_settled : IsSettled F s next row found qs x2
+      reach_settled = record { long = end_long; extension = reach_extension; meets = reach_found; lowers = reach_lowers; blank = blank_again }

@@ -15,21 +15,9 @@ use Rattle.critical_complex.specs.declared.unit.Unit.{Unit}
 use Rattle.critical_complex.specs.Stages.{Stage, IsPaired}
 use Rattle.critical_complex.specs.Splits.{stage_at, IsSplitting}
 use Rattle.critical_complex.specs.Units.{no_match, pair_at, IsUnitOf, filled, value_on, IsTriangular, uppers, MatchUppers}
-use Rattle.critical_complex.proofs.Pairwise.{triangular_at}
+use Rattle.critical_complex.proofs.Pairwise.{triangular_at, later_zero}
 
 -- ---- triangular
-
--- the lower of a later pair is zero at the upper of an earlier one
-pub zero_before : (rows : List (List ℕ)) (ps : List Match) (i k : ℕ) → Triangular rows ps → i < k → k < length ps → entry rows (pair_at ps k).lower (pair_at ps i).upper ≡ 0
-zero_before rows [] i k tr l h = absurd (omega arith)
-zero_before rows (p ∷ ps) i zero tr l h = absurd (omega arith)
-zero_before rows (p ∷ ps) zero (suc k) tr l h = at_match ps k (omega arith) tr.2
-  where
-    at_match : (qs : List Match) (k : ℕ) → k < length qs → AllByRecursion (λ q. entry rows q.lower p.upper ≡ 0) qs → entry rows (pair_at qs k).lower p.upper ≡ 0
-    at_match [] k h a = absurd (omega arith)
-    at_match (q ∷ qs) zero h a = a.0
-    at_match (q ∷ qs) (suc k) h a = at_match qs k (omega arith) a.1
-zero_before rows (p ∷ ps) (suc i) (suc k) tr l h = zero_before rows ps i k tr.3 (omega arith) (omega arith)
 
 module _ (F : Ops) (L : IsField F) (s next : Stage) (P : IsPaired F s next) where
   -- one cell
@@ -56,7 +44,7 @@ module _ (F : Ops) (L : IsField F) (s next : Stage) (P : IsPaired F s next) wher
       record {
         own = λ e. t.1 (sym (value_is p p u u h h t.0 (upper_within index lt)) ∙ e);
         smaller = λ i li v k.
-            value_is p (pair_at s.pairs i) u v h k t.0 (upper_within i (omega arith)) ∙ zero_before s.rows s.pairs i index P.matching.triangular li lt;
+            value_is p (pair_at s.pairs i) u v h k t.0 (upper_within i (omega arith)) ∙ later_zero s.rows s.pairs i index P.matching.triangular li lt;
       }
 
 -- ---- the uppers of the pairs are different

@@ -1,4 +1,5 @@
--- How a matrix is filled, row by row.
+-- How a matrix is filled, row by row. F is the arithmetic of a field, s and next are two degrees.
+--   HasRow F s next old new row   the row has become the coboundary of the extension of its mark; rows count from 0
 use Rattle.std.specs.Prelude.{◌≡◌, ℕ, List, length, slice_set}
 use Rattle.small_field.specs.Field.{Ops}
 use Rattle.linear_laws.specs.Marks.{mark}

@@ -1,38 +1,40 @@
--- Columns of a matrix, each by cells of the lower degree, numbered from 1, with coefficients.
+-- Columns of a matrix, as the code keeps them: each by cells of the lower degree, numbered from 1, and their coefficients. cells and
+-- values are one column, columns and values of lists are all of them, y and b lists of numbers by place.
+--   coefficient cells values cell          the coefficient of a cell in a column, or 0
+--   row_from columns values cell           its coefficients in all columns
+--   rows_from below columns values         the rows of the cells from 1 to `below`
+--   sum_on F cells values y                the sum of the coefficients, each times the number of y at its cell
+--   add_on F cells values factor b         b with a factor times the coefficients added at their cells
+--   IsColumn F below cells values          different cells from 1 to `below`, each with an element
+--   AreColumns F below columns values      the same for each column
 use Rattle.std.specs.Prelude.{◌≡◌, ⊤, ℕ, ◌-◌, ◌≤◌, ◌<◌, ◌==◌, List, [], ◌∷◌, false, cond, map, slice_index}
 use Rattle.small_field.specs.Field.{Ops}
 use Rattle.linear_laws.specs.Vectors.{bump}
 use Rattle.face_poset.specs.Words.{upto, holds}
 
--- the coefficient of a cell in a column
 abbrev pub coefficient : (cells values : List ℕ) → (cell : ℕ) → ℕ
 coefficient [] vs cell = 0
 coefficient (c ∷ cs) [] cell = 0
 coefficient (c ∷ cs) (v ∷ vs) cell = cond (c == cell) v (coefficient cs vs cell)
 
--- the coefficients of a cell in each column
 abbrev pub row_from : (columns values : List (List ℕ)) → (cell : ℕ) → List ℕ
 row_from [] vss cell = []
 row_from (cs ∷ columns) [] cell = []
 row_from (cs ∷ columns) (vs ∷ vss) cell = coefficient cs vs cell ∷ row_from columns vss cell
 
--- the rows of the cells from 1 to `below`
 abbrev pub rows_from : (below : ℕ) → (columns values : List (List ℕ)) → List (List ℕ)
 rows_from below columns vss = map (row_from columns vss) (upto below)
 
--- the sum of the coefficients, each times the number at its cell
 abbrev pub sum_on : Ops → (cells values : List ℕ) → List ℕ → ℕ
 sum_on F [] vs y = 0
 sum_on F (c ∷ cs) [] y = 0
 sum_on F (c ∷ cs) (v ∷ vs) y = F.add (F.mul v (slice_index y (c - 1))) (sum_on F cs vs y)
 
--- a factor times the coefficients, each added to the number at its cell
 abbrev pub add_on : Ops → (cells values : List ℕ) → (factor : ℕ) → List ℕ → List ℕ
 add_on F [] vs factor b = b
 add_on F (c ∷ cs) [] factor b = b
 add_on F (c ∷ cs) (v ∷ vs) factor b = add_on F cs vs factor (bump F b (c - 1) (F.mul factor v))
 
--- different cells from 1 to `below`, each with an element
 abbrev pub IsColumn : Ops → (below : ℕ) → (cells values : List ℕ) → Type 0
 IsColumn F below [] [] = ⊤
 IsColumn F below [] (v ∷ vs) = ⊥

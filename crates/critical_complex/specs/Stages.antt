@@ -1,5 +1,11 @@
--- What is kept of one degree: the rows of its coboundary, of so many numbers, the kinds of its cells, and the pairs of its lowers
--- with uppers of the next degree, in the order of the field.
+-- What is kept of one degree.
+--   critical_from n kinds    the numbers of the critical cells, where the first cell has the number n
+--   place_of kinds i         the place of a critical cell, by its index; both count from 0
+--   Stage                    the rows of the coboundary of a degree, of so many numbers, the kinds of its cells, and the pairs of its
+--                            lowers with uppers of the next degree, by places, in the order of the field
+--   empty_stage              a degree without cells
+--   IsSmall s                the cells fit 32 bits
+--   IsPaired F s next        two degrees, one after the other, with the pairs of a field between them
 use Rattle.std.specs.Prelude.{◌≡◌, ℕ, zero, suc, ◌+◌, ◌≤◌, List, [], ◌∷◌, length}
 use Rattle.small_field.specs.Field.{Ops}
 use Rattle.split_laws.specs.declared.kind.Kind.{Kind}

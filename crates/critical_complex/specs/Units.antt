@@ -1,4 +1,12 @@
--- The units of a reduction.
+-- The units of a reduction: for each pair its lower with the value 1, and its upper with the value 1. s and next are two degrees.
+--   pair_at pairs index              the pair of an index, which counts from 0
+--   IsUnitOf p u                     u is the unit of the pair p
+--   filled n entries                 the n numbers with these entries, which stand at numbers of cells, and 0 elsewhere
+--   value_on F s next u v            the value of the coboundary of the left side of u on the right side of v
+--   IsTriangular F s next index u    that is not zero on its own right side, and zero on that of each smaller index
+--   uppers kinds                     how many uppers there are
+--   IsIndexOf pairs place index      the index is the one whose pair has the upper at a place
+--   MatchUppers pairs us             each index has an upper, and each upper has exactly one index
 use Rattle.std.specs.Prelude.{◌≡◌, ◌≢◌, ℕ, suc, ◌+◌, ◌-◌, ◌<◌, List, [], ◌∷◌, length, replicate, set, slice_index_or}
 use Rattle.small_field.specs.Field.{Ops}
 use Rattle.linear_laws.specs.Vectors.{combination, dot}

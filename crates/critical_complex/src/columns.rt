@@ -34,44 +34,6 @@ impl<F: Field> Model for Columns<F> {
     ghost invariant = { λ s. AreColumns F.ops s.below s.cells s.values };
 }
 
-/// The coefficient of a cell in a column.
-fn coefficient_in(cells: &[u32], values: &[u32], cell: u32) -> u32
-    requires { length values.now ≡ length cells.now }
-    ensures { result ≡ coefficient cells.now values.now cell }
-{
-    for index in 0..cells.len() {
-        if cells[index] == cell {
-            return values[index];
-        }
-    }
-    0
-}
-
-/// The sum of the coefficients of a column, each times the value at its cell.
-fn sum_over<F: Field>(cells: &[u32], values: &[u32], y: &Cochain<F>) -> F
-    requires { IsColumn F.ops (length y.now) cells.now values.now }
-    ensures { F.number_of result ≡ sum_on F.ops cells.now values.now y.now }
-{
-    let mut total = F::zero();
-    for index in 0..cells.len() {
-        let value = F::from_number(values[index]);
-        total = total.add(value.mul(y.get(cells[index])));
-    }
-    total
-}
-
-/// Adds a factor times each coefficient of a column to the value at its cell.
-fn add_over<F: Field>(cells: &[u32], values: &[u32], factor: F, chain: &mut Cochain<F>)
-    requires { IsColumn F.ops (length chain.old) cells.now values.now }
-    ensures { chain.new ≡ add_on F.ops cells.now values.now (F.number_of factor) chain.old }
-{
-    for index in 0..cells.len() {
-        let share = factor.mul(F::from_number(values[index]));
-        let value = chain.get(cells[index]).add(share);
-        chain.set(cells[index], value);
-    }
-}
-
 impl<F: Field> Columns<F> {
     /// The coboundary of a cochain at a cell of the next degree.
     pub(crate) fn coboundary_at(&self, y: &Cochain<F>, upper: u32) -> F
@@ -136,5 +98,43 @@ impl<F: Field> Columns<F> {
             values,
             of: PhantomData,
         })
+    }
+}
+
+/// The coefficient of a cell in a column.
+fn coefficient_in(cells: &[u32], values: &[u32], cell: u32) -> u32
+    requires { length values.now ≡ length cells.now }
+    ensures { result ≡ coefficient cells.now values.now cell }
+{
+    for index in 0..cells.len() {
+        if cells[index] == cell {
+            return values[index];
+        }
+    }
+    0
+}
+
+/// The sum of the coefficients of a column, each times the value at its cell.
+fn sum_over<F: Field>(cells: &[u32], values: &[u32], y: &Cochain<F>) -> F
+    requires { IsColumn F.ops (length y.now) cells.now values.now }
+    ensures { F.number_of result ≡ sum_on F.ops cells.now values.now y.now }
+{
+    let mut total = F::zero();
+    for index in 0..cells.len() {
+        let value = F::from_number(values[index]);
+        total = total.add(value.mul(y.get(cells[index])));
+    }
+    total
+}
+
+/// Adds a factor times each coefficient of a column to the value at its cell.
+fn add_over<F: Field>(cells: &[u32], values: &[u32], factor: F, chain: &mut Cochain<F>)
+    requires { IsColumn F.ops (length chain.old) cells.now values.now }
+    ensures { chain.new ≡ add_on F.ops cells.now values.now (F.number_of factor) chain.old }
+{
+    for index in 0..cells.len() {
+        let share = factor.mul(F::from_number(values[index]));
+        let value = chain.get(cells[index]).add(share);
+        chain.set(cells[index], value);
     }
 }

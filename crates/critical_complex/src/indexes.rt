@@ -12,6 +12,22 @@ use crate::stage::Stage;
 use small_field::Field;
 use std::alloc::{AllocError, Global};
 
+/// For each cell of the next degree an index: of its pair, where it is an upper, and among the critical
+/// cells, where it is critical.
+pub(crate) fn list_indexes<F: Field>(
+    alloc: Global,
+    stage: &Stage<F>,
+    next: &Stage<F>,
+) -> Result<Vec<u32>, AllocError>
+    requires { IsPaired F.ops stage.now next.now }
+    ensures { IfOk result (λ indexes. AreIndexes stage.now.pairs next.now.kinds indexes.items) }
+{
+    let mut indexes = vec![in alloc; 0u32; next.len() as usize]?;
+    put_pairs(stage, &mut indexes);
+    put_columns(next, &mut indexes);
+    Ok(indexes)
+}
+
 /// Puts the index of each pair at the place of its upper.
 fn put_pairs<F: Field>(stage: &Stage<F>, indexes: &mut [u32])
     requires { AllByRecursion (λ p. p.upper < length indexes.old) stage.now.pairs }
@@ -31,20 +47,4 @@ fn put_columns<F: Field>(next: &Stage<F>, indexes: &mut [u32])
     for col in 0..next.criticals() {
         indexes[next.critical_place(col) as usize] = col;
     }
-}
-
-/// For each cell of the next degree an index: of its pair, where it is an upper, and among the critical
-/// cells, where it is critical.
-pub(crate) fn list_indexes<F: Field>(
-    alloc: Global,
-    stage: &Stage<F>,
-    next: &Stage<F>,
-) -> Result<Vec<u32>, AllocError>
-    requires { IsPaired F.ops stage.now next.now }
-    ensures { IfOk result (λ indexes. AreIndexes stage.now.pairs next.now.kinds indexes.items) }
-{
-    let mut indexes = vec![in alloc; 0u32; next.len() as usize]?;
-    put_pairs(stage, &mut indexes);
-    put_columns(next, &mut indexes);
-    Ok(indexes)
 }

@@ -7,7 +7,6 @@ mod cleared;
 mod coboundary;
 mod columns;
 mod flow;
-mod found;
 mod indexes;
 mod listing;
 mod reach;

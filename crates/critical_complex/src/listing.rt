@@ -11,51 +11,6 @@ use split_laws::{Kind, Match};
 use std::alloc::{AllocError, Global};
 use vector_field::{PairList, Partner};
 
-/// The number of the sign of a facet.
-fn sign_number<F: Field, G: Signed>(graded: &G, dim: u8, cell: u32, facet: u32) -> u32
-    requires first { 1 ≤ cell }
-    requires last { cell ≤ count (G.space graded.now) dim }
-    requires facet { Contains (facets_of (G.space graded.now) dim cell) facet }
-    ensures { result ≡ sign_element F.ops (G.negative graded.now dim cell facet) }
-{
-    let one = F::one();
-    if graded.sign(dim, cell, facet) < 0 {
-        one.neg().to_number()
-    } else {
-        one.to_number()
-    }
-}
-
-/// Puts the numbers of the signs of the facets of a cell in the list.
-pub(crate) fn put_signs<F: Field, G: Signed>(
-    graded: &G,
-    dim: u8,
-    cell: u32,
-    signs: &mut Vec<u32>,
-) -> Result<(), AllocError>
-    requires first { 1 ≤ cell }
-    requires last { cell ≤ count (G.space graded.now) dim }
-    ensures { OnOk result (signs.new.items ≡ map (λ facet. sign_element F.ops (G.negative graded.now dim cell facet)) (facets_of (G.space graded.now) dim cell)) }
-{
-    signs.clear();
-    for facet in graded.facets(dim, cell) {
-        signs.push(sign_number::<F, G>(graded, dim, cell, *facet))?;
-    }
-    Ok(())
-}
-
-/// How a cell stands in the pairs.
-fn kind_of(field: &PairList, dim: u8, cell: u32) -> Kind
-    requires { HasCell field.now.counts dim cell }
-    ensures { IsKind field.now.pairs dim cell result }
-{
-    match field.partner(dim, cell) {
-        Partner::Critical => Kind::Critical,
-        Partner::Upper(_) => Kind::Lower,
-        Partner::Lower(_) => Kind::Upper,
-    }
-}
-
 /// How each cell of a dimension stands in the pairs.
 pub(crate) fn list_kinds(
     alloc: Global,
@@ -91,6 +46,48 @@ pub(crate) fn list_pairs(alloc: Global, field: &PairList, dim: u8) -> Result<Vec
     Ok(pairs)
 }
 
+/// The numbers of the critical cells.
+pub(crate) fn list_critical(alloc: Global, kinds: &[Kind]) -> Result<Vec<u32>, AllocError>
+    requires { length kinds.now ≤ 4294967295 }
+    ensures { IfOk result (λ critical. critical.items ≡ critical_from 1 kinds.now) }
+{
+    let mut critical = Vec::new(alloc);
+    for index in 0..kinds.len() {
+        put_critical(&mut critical, kinds[index], index as u32 + 1)?;
+    }
+    Ok(critical)
+}
+
+/// Puts the numbers of the signs of the facets of a cell in the list.
+pub(crate) fn put_signs<F: Field, G: Signed>(
+    graded: &G,
+    dim: u8,
+    cell: u32,
+    signs: &mut Vec<u32>,
+) -> Result<(), AllocError>
+    requires first { 1 ≤ cell }
+    requires last { cell ≤ count (G.space graded.now) dim }
+    ensures { OnOk result (signs.new.items ≡ map (λ facet. sign_element F.ops (G.negative graded.now dim cell facet)) (facets_of (G.space graded.now) dim cell)) }
+{
+    signs.clear();
+    for facet in graded.facets(dim, cell) {
+        signs.push(sign_number::<F, G>(graded, dim, cell, *facet))?;
+    }
+    Ok(())
+}
+
+/// How a cell stands in the pairs.
+fn kind_of(field: &PairList, dim: u8, cell: u32) -> Kind
+    requires { HasCell field.now.counts dim cell }
+    ensures { IsKind field.now.pairs dim cell result }
+{
+    match field.partner(dim, cell) {
+        Partner::Critical => Kind::Critical,
+        Partner::Upper(_) => Kind::Lower,
+        Partner::Lower(_) => Kind::Upper,
+    }
+}
+
 /// Puts the number of a cell last, where the cell is critical.
 fn put_critical(critical: &mut Vec<u32>, kind: Kind, number: u32) -> Result<(), AllocError>
     ensures { OnOk result (critical.new.items ≡ critical.old.items ++ critical_from number (kind ∷ [])) }
@@ -105,14 +102,17 @@ fn put_critical(critical: &mut Vec<u32>, kind: Kind, number: u32) -> Result<(), 
     }
 }
 
-/// The numbers of the critical cells.
-pub(crate) fn list_critical(alloc: Global, kinds: &[Kind]) -> Result<Vec<u32>, AllocError>
-    requires { length kinds.now ≤ 4294967295 }
-    ensures { IfOk result (λ critical. critical.items ≡ critical_from 1 kinds.now) }
+/// The number of the sign of a facet.
+fn sign_number<F: Field, G: Signed>(graded: &G, dim: u8, cell: u32, facet: u32) -> u32
+    requires first { 1 ≤ cell }
+    requires last { cell ≤ count (G.space graded.now) dim }
+    requires facet { Contains (facets_of (G.space graded.now) dim cell) facet }
+    ensures { result ≡ sign_element F.ops (G.negative graded.now dim cell facet) }
 {
-    let mut critical = Vec::new(alloc);
-    for index in 0..kinds.len() {
-        put_critical(&mut critical, kinds[index], index as u32 + 1)?;
+    let one = F::one();
+    if graded.sign(dim, cell, facet) < 0 {
+        one.neg().to_number()
+    } else {
+        one.to_number()
     }
-    Ok(critical)
 }

@@ -1,79 +1,74 @@
 // The search for what the extension from a critical cell meets.
-ghost use Rattle.std.specs.Prelude.{◌≡◌, ◌+◌, ◌-◌, ◌++◌, ◌<◌, ◌≤◌, ℕ, length, map, slice_index, All, Contains, IfOk, OnOk};
-ghost use Rattle.std.specs.List.Sorted.{IsStrictlyIncreasing};
+ghost use Rattle.std.specs.Prelude.{◌≡◌, ◌++◌, ◌<◌, length, map, slice_index, All, IfOk, OnOk};
 ghost use Rattle.split_laws.specs.declared.kind.Kind.TheVariants.{Upper};
 ghost use Rattle.split_laws.specs.Pairs.{kind_at};
 ghost use Rattle.critical_complex.specs.Stages.{IsPaired};
-ghost use Rattle.critical_complex.specs.Reaches.{upper_index, AreDegrees, AreIndexes, HasCofaces, HasMore, HoldsAll, IsClosed, IsOrder, IsReach};
+ghost use Rattle.critical_complex.specs.Reaches.{upper_index, AreDegrees, AreIndexes, HasCofaces, HasMore, IsClosed, IsOrder, IsReach};
 ghost use Rattle.critical_complex.specs.Units.{pair_at};
 
-use crate::found::Found;
 use crate::indexes::list_indexes;
 use crate::stage::Stage;
 use face_poset::Signed;
+use number_lists::{FoundNumbers, sort_once};
 use small_field::Field;
 use split_laws::{Kind, Match};
 use std::alloc::{AllocError, Global};
 
-/// Puts these numbers among those found.
-fn insert_all(numbers: &[u32], found: &mut Found) -> Result<(), AllocError>
-    requires { All (λ n. (1 ≤ n) × (n ≤ found.old.most)) numbers.now }
-    ensures most { found.new.most ≡ found.old.most }
-    ensures more { OnOk result (HasMore found.old.found found.new.found) }
-    ensures added { OnOk result (HoldsAll numbers.now found.new.found) }
-{
-    for number in numbers {
-        found.insert(*number)?;
+/// What the extension from one critical cell after another meets: cells of the next degree, and the pairs of
+/// the uppers among them. The places for them are kept, so that each search costs what it finds.
+#[derive(Drop)]
+pub(crate) struct Reach {
+    /// For each cell of the next degree the index of its pair, or its index among the critical cells.
+    pub(crate) indexes: Vec<u32>,
+    /// The numbers of the cells that were found.
+    pub(crate) found: FoundNumbers,
+    /// The indexes of the pairs that were found, increasing.
+    order: Vec<u32>,
+    /// These pairs.
+    pub(crate) chosen: Vec<Match>,
+}
+
+impl Reach {
+    /// Nothing was found yet.
+    pub(crate) fn new<F: Field>(
+        alloc: Global,
+        stage: &Stage<F>,
+        next: &Stage<F>,
+    ) -> Result<Reach, AllocError>
+        requires { IsPaired F.ops stage.now next.now }
+        ensures indexes { IfOk result (λ reach. AreIndexes stage.now.pairs next.now.kinds reach.indexes.items) }
+        ensures most { IfOk result (λ reach. reach.found.most ≡ length next.now.kinds) }
+    {
+        Ok(Reach {
+            indexes: list_indexes(alloc, stage, next)?,
+            found: FoundNumbers::new(alloc, next.len() as usize)?,
+            order: Vec::new(alloc),
+            chosen: Vec::new(alloc),
+        })
     }
-    Ok(())
-}
 
-/// Finds the cofaces of a cell.
-fn insert_cofaces<F: Field, G: Signed>(
-    graded: &G,
-    dim: u8,
-    stage: &Stage<F>,
-    next: &Stage<F>,
-    place: u32,
-    found: &mut Found,
-) -> Result<(), AllocError>
-    requires degrees { AreDegrees F.ops (G.space graded.now) (G.negative graded.now) dim stage.now next.now }
-    requires most { found.old.most ≡ length next.now.kinds }
-    requires place { place < length stage.now.kinds }
-    ensures most { found.new.most ≡ found.old.most }
-    ensures more { OnOk result (HasMore found.old.found found.new.found) }
-    ensures cofaces { OnOk result (HasCofaces (G.space graded.now) dim place found.new.found) }
-{
-    let _few = stage.len();
-    insert_all(graded.cofaces(dim, place + 1), found)
-}
-
-/// Finds the cofaces of the lower of an upper. From a cell that is no upper there is nothing to find.
-fn follow<F: Field, G: Signed>(
-    graded: &G,
-    dim: u8,
-    stage: &Stage<F>,
-    next: &Stage<F>,
-    indexes: &[u32],
-    place: u32,
-    found: &mut Found,
-) -> Result<(), AllocError>
-    requires paired { IsPaired F.ops stage.now next.now }
-    requires degrees { AreDegrees F.ops (G.space graded.now) (G.negative graded.now) dim stage.now next.now }
-    requires indexes { AreIndexes stage.now.pairs next.now.kinds indexes.now }
-    requires most { found.old.most ≡ length next.now.kinds }
-    requires place { place < length next.now.kinds }
-    ensures most { found.new.most ≡ found.old.most }
-    ensures more { OnOk result (HasMore found.old.found found.new.found) }
-    ensures cofaces { OnOk result (kind_at next.now.kinds place ≡ Upper → HasCofaces (G.space graded.now) dim ((pair_at stage.now.pairs (slice_index indexes.now place)).lower) found.new.found) }
-{
-    match next.kind(place) {
-        Kind::Critical => Ok(()),
-        Kind::Lower => Ok(()),
-        Kind::Upper => {
-            let lower = stage.pair(indexes[place as usize]).lower;
-            insert_cofaces(graded, dim, stage, next, lower, found)
-        }
+    /// Finds what the extension from the critical cell at a place meets.
+    pub(crate) fn find<F: Field, G: Signed>(
+        &mut self,
+        graded: &G,
+        dim: u8,
+        stage: &Stage<F>,
+        next: &Stage<F>,
+        place: u32,
+    ) -> Result<(), AllocError>
+        requires paired { IsPaired F.ops stage.now next.now }
+        requires degrees { AreDegrees F.ops (G.space graded.now) (G.negative graded.now) dim stage.now next.now }
+        requires indexes { AreIndexes stage.now.pairs next.now.kinds self.old.indexes.items }
+        requires most { self.old.found.most ≡ length next.now.kinds }
+        requires place { place < length stage.now.kinds }
+        ensures indexes { OnOk result (self.new.indexes.items ≡ self.old.indexes.items) }
+        ensures most { OnOk result (self.new.found.most ≡ length next.now.kinds) }
+        ensures reach { OnOk result (IsReach stage.now next.now place self.new.found.found self.new.chosen.items) }
+    {
+        let indexes: &[u32] = &self.indexes;
+        find_cells(graded, dim, stage, next, indexes, place, &mut self.found)?;
+        list_order(next, indexes, &self.found, &mut self.order)?;
+        choose(stage, &self.order, &mut self.chosen)
     }
 }
 
@@ -85,7 +80,7 @@ fn find_cells<F: Field, G: Signed>(
     next: &Stage<F>,
     indexes: &[u32],
     place: u32,
-    found: &mut Found,
+    found: &mut FoundNumbers,
 ) -> Result<(), AllocError>
     requires paired { IsPaired F.ops stage.now next.now }
     requires degrees { AreDegrees F.ops (G.space graded.now) (G.negative graded.now) dim stage.now next.now }
@@ -106,35 +101,11 @@ fn find_cells<F: Field, G: Signed>(
     Ok(())
 }
 
-/// Sorts the numbers, and leaves each once.
-fn sort_once(numbers: &mut Vec<u32>)
-    ensures rises { IsStrictlyIncreasing numbers.new.items }
-    ensures keeps { (n : ℕ) → Contains numbers.old.items n → Contains numbers.new.items n }
-    ensures adds_none { (n : ℕ) → Contains numbers.new.items n → Contains numbers.old.items n }
-{
-    numbers.sort_unstable();
-    numbers.dedup();
-}
-
-/// Puts the index last, where the cell is an upper.
-fn push_index(kind: Kind, index: u32, order: &mut Vec<u32>) -> Result<(), AllocError>
-    ensures { OnOk result (order.new.items ≡ order.old.items ++ upper_index kind index) }
-{
-    match kind {
-        Kind::Critical => Ok(()),
-        Kind::Lower => Ok(()),
-        Kind::Upper => {
-            order.push(index)?;
-            Ok(())
-        }
-    }
-}
-
 /// The indexes of the pairs whose uppers were found, in the order of the field.
 fn list_order<F: Field>(
     next: &Stage<F>,
     indexes: &[u32],
-    found: &Found,
+    found: &FoundNumbers,
     order: &mut Vec<u32>,
 ) -> Result<(), AllocError>
     requires indexes { length indexes.now ≡ length next.now.kinds }
@@ -166,60 +137,65 @@ fn choose<F: Field>(
     Ok(())
 }
 
-/// What the extension from one critical cell after another meets: cells of the next degree, and the pairs of
-/// the uppers among them. The places for them are kept, so that each search costs what it finds.
-#[derive(Drop)]
-pub(crate) struct Reach {
-    /// For each cell of the next degree the index of its pair, or its index among the critical cells.
-    pub(crate) indexes: Vec<u32>,
-    /// The numbers of the cells that were found.
-    pub(crate) found: Found,
-    /// The indexes of the pairs that were found, increasing.
-    order: Vec<u32>,
-    /// These pairs.
-    pub(crate) chosen: Vec<Match>,
+/// Finds the cofaces of a cell.
+fn insert_cofaces<F: Field, G: Signed>(
+    graded: &G,
+    dim: u8,
+    stage: &Stage<F>,
+    next: &Stage<F>,
+    place: u32,
+    found: &mut FoundNumbers,
+) -> Result<(), AllocError>
+    requires degrees { AreDegrees F.ops (G.space graded.now) (G.negative graded.now) dim stage.now next.now }
+    requires most { found.old.most ≡ length next.now.kinds }
+    requires place { place < length stage.now.kinds }
+    ensures most { found.new.most ≡ found.old.most }
+    ensures more { OnOk result (HasMore found.old.found found.new.found) }
+    ensures cofaces { OnOk result (HasCofaces (G.space graded.now) dim place found.new.found) }
+{
+    let _few = stage.len();
+    found.insert_all(graded.cofaces(dim, place + 1))
 }
 
-impl Reach {
-    /// Nothing was found yet.
-    pub(crate) fn new<F: Field>(
-        alloc: Global,
-        stage: &Stage<F>,
-        next: &Stage<F>,
-    ) -> Result<Reach, AllocError>
-        requires { IsPaired F.ops stage.now next.now }
-        ensures indexes { IfOk result (λ reach. AreIndexes stage.now.pairs next.now.kinds reach.indexes.items) }
-        ensures most { IfOk result (λ reach. reach.found.most ≡ length next.now.kinds) }
-    {
-        Ok(Reach {
-            indexes: list_indexes(alloc, stage, next)?,
-            found: Found::new(alloc, next.len())?,
-            order: Vec::new(alloc),
-            chosen: Vec::new(alloc),
-        })
+/// Finds the cofaces of the lower of an upper. From a cell that is no upper there is nothing to find.
+fn follow<F: Field, G: Signed>(
+    graded: &G,
+    dim: u8,
+    stage: &Stage<F>,
+    next: &Stage<F>,
+    indexes: &[u32],
+    place: u32,
+    found: &mut FoundNumbers,
+) -> Result<(), AllocError>
+    requires paired { IsPaired F.ops stage.now next.now }
+    requires degrees { AreDegrees F.ops (G.space graded.now) (G.negative graded.now) dim stage.now next.now }
+    requires indexes { AreIndexes stage.now.pairs next.now.kinds indexes.now }
+    requires most { found.old.most ≡ length next.now.kinds }
+    requires place { place < length next.now.kinds }
+    ensures most { found.new.most ≡ found.old.most }
+    ensures more { OnOk result (HasMore found.old.found found.new.found) }
+    ensures cofaces { OnOk result (kind_at next.now.kinds place ≡ Upper → HasCofaces (G.space graded.now) dim ((pair_at stage.now.pairs (slice_index indexes.now place)).lower) found.new.found) }
+{
+    match next.kind(place) {
+        Kind::Critical => Ok(()),
+        Kind::Lower => Ok(()),
+        Kind::Upper => {
+            let lower = stage.pair(indexes[place as usize]).lower;
+            insert_cofaces(graded, dim, stage, next, lower, found)
+        }
     }
+}
 
-    /// Finds what the extension from the critical cell at a place meets.
-    pub(crate) fn find<F: Field, G: Signed>(
-        &mut self,
-        graded: &G,
-        dim: u8,
-        stage: &Stage<F>,
-        next: &Stage<F>,
-        place: u32,
-    ) -> Result<(), AllocError>
-        requires paired { IsPaired F.ops stage.now next.now }
-        requires degrees { AreDegrees F.ops (G.space graded.now) (G.negative graded.now) dim stage.now next.now }
-        requires indexes { AreIndexes stage.now.pairs next.now.kinds self.old.indexes.items }
-        requires most { self.old.found.most ≡ length next.now.kinds }
-        requires place { place < length stage.now.kinds }
-        ensures indexes { OnOk result (self.new.indexes.items ≡ self.old.indexes.items) }
-        ensures most { OnOk result (self.new.found.most ≡ length next.now.kinds) }
-        ensures reach { OnOk result (IsReach stage.now next.now place self.new.found.found self.new.chosen.items) }
-    {
-        let indexes: &[u32] = &self.indexes;
-        find_cells(graded, dim, stage, next, indexes, place, &mut self.found)?;
-        list_order(next, indexes, &self.found, &mut self.order)?;
-        choose(stage, &self.order, &mut self.chosen)
+/// Puts the index last, where the cell is an upper.
+fn push_index(kind: Kind, index: u32, order: &mut Vec<u32>) -> Result<(), AllocError>
+    ensures { OnOk result (order.new.items ≡ order.old.items ++ upper_index kind index) }
+{
+    match kind {
+        Kind::Critical => Ok(()),
+        Kind::Lower => Ok(()),
+        Kind::Upper => {
+            order.push(index)?;
+            Ok(())
+        }
     }
 }

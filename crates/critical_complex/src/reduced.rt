@@ -2,11 +2,10 @@
 ghost use Rattle.std.specs.Prelude.{◌≡◌, ◌+◌, ◌<◌, ◌≤◌, ℕ, suc, length, IfOk};
 ghost use Rattle.vector_field.specs.Pairs.{IsFieldOf};
 ghost use Rattle.split_laws.specs.Kinds.{criticals};
-ghost use Rattle.split_laws.specs.Solutions.{IsCleared, IsExtension, IsFlow, IsReducedBy};
 ghost use Rattle.critical_complex.specs.Stages.{critical_from, IsPaired};
 ghost use Rattle.critical_complex.specs.Reaches.{AreDegrees};
 ghost use Rattle.critical_complex.specs.Units.{uppers, pair_at, IsTriangular, IsUnitOf, MatchUppers};
-ghost use Rattle.critical_complex.specs.Splits.{stage_at, stage_before, cells_at, kinds_at, rows_at, AreMatrices, IsReductionOf, IsSplitting};
+ghost use Rattle.critical_complex.specs.Splits.{stage_at, cells_at, kinds_at, AreMatrices, IsClearedAt, IsExtensionAt, IsFlowAt, IsReducedAt, IsReductionOf, IsSplitting};
 
 use crate::cleared::Cleared;
 use crate::coboundary::coboundary_matrix;
@@ -38,6 +37,106 @@ impl<F: Field> Model for Reduced<F> {
     ghost view = { λ s. s.stages.items };
 
     ghost invariant = { λ s. IsSplitting F.ops s.stages.items × AreMatrices F.ops s.stages.items 4 s.matrices.items };
+}
+
+impl<F: Field> Reduced<F> {
+    /// The reduction of a signed set to the critical cells of a field of pairs on it.
+    pub fn new<G: Signed>(
+        alloc: Global,
+        graded: &G,
+        field: &PairList,
+    ) -> Result<Reduced<F>, AllocError>
+        requires { IsFieldOf (G.space graded.now) field.now }
+        ensures reduction { IfOk result (IsReductionOf F.ops (G.space graded.now) (G.negative graded.now) field.now.pairs) }
+        ensures splitting { IfOk result (IsSplitting F.ops) }
+    {
+        let stages = list_stages(alloc, graded, field)?;
+        let matrices = list_matrices(alloc, graded, &stages)?;
+        Ok(Reduced { stages, matrices })
+    }
+
+    /// The critical cells of a degree, increasing.
+    pub fn critical(&self, dim: u8) -> &[u32]
+        requires { dim ≤ 3 }
+        ensures critical { result.now ≡ critical_from 1 (kinds_at self.now dim) }
+        ensures splitting { IsSplitting F.ops self.now }
+    {
+        self.stages[dim as usize].critical()
+    }
+
+    /// A row for each critical cell of a degree, a column for each of one more: the coboundary, at the
+    /// column's cell, of the extension that is 1 at the row's cell and 0 at the other critical cells.
+    pub fn coboundary_rows(&self, dim: u8) -> &Matrix<F>
+        requires { dim ≤ 3 }
+        ensures cols { result.now.cols ≡ criticals (kinds_at self.now (dim + 1)) }
+        ensures rows { IsReducedAt F.ops self.now dim result.now.rows }
+        ensures splitting { IsSplitting F.ops self.now }
+    {
+        &self.matrices[dim as usize]
+    }
+
+    /// The one cochain that has these values at the critical cells and is 0 on uppers, and whose coboundary
+    /// is 0 on uppers of one degree more.
+    pub fn extend(&self, alloc: Global, dim: u8, w: &Row<F>) -> Result<Cochain<F>, AllocError>
+        requires degree { dim ≤ 3 }
+        requires values { length w.now ≡ criticals (kinds_at self.now dim) }
+        ensures { IfOk result (IsExtensionAt F.ops self.now dim w.now) }
+    {
+        let stages: &[Stage<F>] = &self.stages;
+        let stage = &stages[dim as usize];
+        stage.extension(alloc, &stages[dim as usize + 1], w)
+    }
+
+    /// The one chain that has these values at the critical cells and is 0 on lowers, and whose boundary is 0 on
+    /// lowers of one degree less.
+    pub fn flow(&self, alloc: Global, dim: u8, c: &Row<F>) -> Result<Cochain<F>, AllocError>
+        requires degree { dim ≤ 3 }
+        requires values { length c.now ≡ criticals (kinds_at self.now dim) }
+        ensures { IfOk result (IsFlowAt F.ops self.now dim c.now) }
+    {
+        let stages: &[Stage<F>] = &self.stages;
+        if dim == 0 {
+            return flow_first(alloc, &stages[0], c);
+        }
+        flow(alloc, &stages[dim as usize - 1], &stages[dim as usize], c)
+    }
+
+    /// Clears a cochain: the one cochain of one degree less, on its lowers, whose coboundary is the cochain on
+    /// uppers, and what remains on the critical cells when the coboundary is taken away.
+    pub fn clear(&self, alloc: Global, dim: u8, x: &Cochain<F>) -> Result<Cleared<F>, AllocError>
+        requires degree { dim ≤ 3 }
+        requires cochain { length x.now ≡ cells_at self.now dim }
+        ensures { IfOk result (λ r. IsClearedAt F.ops self.now dim x.now r.w r.y) }
+    {
+        let stages: &[Stage<F>] = &self.stages;
+        if dim == 0 {
+            return stages[0].clearing_first(alloc, x);
+        }
+        stages[dim as usize - 1].clearing(alloc, &stages[dim as usize], x)
+    }
+
+    /// How many units there are: as many as uppers of one degree more, each of which is the right side of exactly
+    /// one.
+    pub fn units(&self, dim: u8) -> u32
+        requires { dim ≤ 3 }
+        ensures pairs { result ≡ length (stage_at self.now dim).pairs }
+        ensures uppers { result ≡ uppers (kinds_at self.now (dim + 1)) }
+        ensures each { MatchUppers (stage_at self.now dim).pairs (kinds_at self.now (dim + 1)) }
+    {
+        self.stages[dim as usize].units()
+    }
+
+    /// A unit: the lower of a pair with the value 1, and its upper with the value 1. The coboundary of its left
+    /// side is not zero on its own right side, and zero on the right side of each smaller index.
+    pub fn unit(&self, alloc: Global, dim: u8, index: u32) -> Result<Unit, AllocError>
+        requires degree { dim ≤ 3 }
+        requires index { index < length (stage_at self.now dim).pairs }
+        ensures unit { IfOk result (IsUnitOf (pair_at (stage_at self.now dim).pairs index)) }
+        ensures triangular { IfOk result (IsTriangular F.ops (stage_at self.now dim) (stage_at self.now (dim + 1)) index) }
+    {
+        let stages: &[Stage<F>] = &self.stages;
+        stages[dim as usize].unit(alloc, &stages[dim as usize + 1], index)
+    }
 }
 
 /// What is kept of each degree.
@@ -74,104 +173,4 @@ fn list_matrices<F: Field, G: Signed>(
         matrices.push(matrix)?;
     }
     Ok(matrices)
-}
-
-impl<F: Field> Reduced<F> {
-    /// The reduction of a signed set to the critical cells of a field of pairs on it.
-    pub fn new<G: Signed>(
-        alloc: Global,
-        graded: &G,
-        field: &PairList,
-    ) -> Result<Reduced<F>, AllocError>
-        requires { IsFieldOf (G.space graded.now) field.now }
-        ensures reduction { IfOk result (IsReductionOf F.ops (G.space graded.now) (G.negative graded.now) field.now.pairs) }
-        ensures splitting { IfOk result (IsSplitting F.ops) }
-    {
-        let stages = list_stages(alloc, graded, field)?;
-        let matrices = list_matrices(alloc, graded, &stages)?;
-        Ok(Reduced { stages, matrices })
-    }
-
-    /// The critical cells of a degree, increasing.
-    pub fn critical(&self, dim: u8) -> &[u32]
-        requires { dim ≤ 3 }
-        ensures critical { result.now ≡ critical_from 1 (kinds_at self.now dim) }
-        ensures splitting { IsSplitting F.ops self.now }
-    {
-        self.stages[dim as usize].critical()
-    }
-
-    /// A row for each critical cell of a degree, a column for each of one more: the coboundary, at the
-    /// column's cell, of the extension that is 1 at the row's cell and 0 at the other critical cells.
-    pub fn coboundary_rows(&self, dim: u8) -> &Matrix<F>
-        requires { dim ≤ 3 }
-        ensures cols { result.now.cols ≡ criticals (kinds_at self.now (dim + 1)) }
-        ensures rows { IsReducedBy F.ops (cells_at self.now dim) (cells_at self.now (dim + 1)) (rows_at self.now dim) (kinds_at self.now dim) (kinds_at self.now (dim + 1)) result.now.rows }
-        ensures splitting { IsSplitting F.ops self.now }
-    {
-        &self.matrices[dim as usize]
-    }
-
-    /// The one cochain that has these values at the critical cells and is 0 on uppers, and whose coboundary
-    /// is 0 on uppers of one degree more.
-    pub fn extend(&self, alloc: Global, dim: u8, w: &Row<F>) -> Result<Cochain<F>, AllocError>
-        requires degree { dim ≤ 3 }
-        requires values { length w.now ≡ criticals (kinds_at self.now dim) }
-        ensures { IfOk result (IsExtension F.ops (cells_at self.now dim) (cells_at self.now (dim + 1)) (rows_at self.now dim) (kinds_at self.now dim) (kinds_at self.now (dim + 1)) w.now) }
-    {
-        let stages: &[Stage<F>] = &self.stages;
-        let stage = &stages[dim as usize];
-        stage.extension(alloc, &stages[dim as usize + 1], w)
-    }
-
-    /// The one chain that has these values at the critical cells and is 0 on lowers, and whose boundary is 0 on
-    /// lowers of one degree less.
-    pub fn flow(&self, alloc: Global, dim: u8, c: &Row<F>) -> Result<Cochain<F>, AllocError>
-        requires degree { dim ≤ 3 }
-        requires values { length c.now ≡ criticals (kinds_at self.now dim) }
-        ensures { IfOk result (IsFlow F.ops (length (stage_before self.now dim).kinds) (cells_at self.now dim) (stage_before self.now dim).rows (stage_before self.now dim).kinds (kinds_at self.now dim) c.now) }
-    {
-        let stages: &[Stage<F>] = &self.stages;
-        if dim == 0 {
-            return flow_first(alloc, &stages[0], c);
-        }
-        flow(alloc, &stages[dim as usize - 1], &stages[dim as usize], c)
-    }
-
-    /// Clears a cochain: the one cochain of one degree less, on its lowers, whose coboundary is the cochain on
-    /// uppers, and what remains on the critical cells when the coboundary is taken away.
-    pub fn clear(&self, alloc: Global, dim: u8, x: &Cochain<F>) -> Result<Cleared<F>, AllocError>
-        requires degree { dim ≤ 3 }
-        requires cochain { length x.now ≡ cells_at self.now dim }
-        ensures { IfOk result (λ r. IsCleared F.ops (length (stage_before self.now dim).kinds) (cells_at self.now dim) (stage_before self.now dim).rows (stage_before self.now dim).kinds (kinds_at self.now dim) x.now r.w r.y) }
-    {
-        let stages: &[Stage<F>] = &self.stages;
-        if dim == 0 {
-            return stages[0].clearing_first(alloc, x);
-        }
-        stages[dim as usize - 1].clearing(alloc, &stages[dim as usize], x)
-    }
-
-    /// How many units there are: as many as uppers of one degree more, each of which is the right side of exactly
-    /// one.
-    pub fn units(&self, dim: u8) -> u32
-        requires { dim ≤ 3 }
-        ensures pairs { result ≡ length (stage_at self.now dim).pairs }
-        ensures uppers { result ≡ uppers (kinds_at self.now (dim + 1)) }
-        ensures each { MatchUppers (stage_at self.now dim).pairs (kinds_at self.now (dim + 1)) }
-    {
-        self.stages[dim as usize].units()
-    }
-
-    /// A unit: the lower of a pair with the value 1, and its upper with the value 1. The coboundary of its left
-    /// side is not zero on its own right side, and zero on the right side of each smaller index.
-    pub fn unit(&self, alloc: Global, dim: u8, index: u32) -> Result<Unit, AllocError>
-        requires degree { dim ≤ 3 }
-        requires index { index < length (stage_at self.now dim).pairs }
-        ensures unit { IfOk result (IsUnitOf (pair_at (stage_at self.now dim).pairs index)) }
-        ensures triangular { IfOk result (IsTriangular F.ops (stage_at self.now dim) (stage_at self.now (dim + 1)) index) }
-    {
-        let stages: &[Stage<F>] = &self.stages;
-        stages[dim as usize].unit(alloc, &stages[dim as usize + 1], index)
-    }
 }

@@ -8,24 +8,6 @@ use crate::columns::Columns;
 use small_field::{Cochain, Field};
 use split_laws::Match;
 
-/// Changes a cochain at the lower of a pair, so that its coboundary at the upper is that of t.
-fn settle_pair<F: Field>(columns: &Columns<F>, pair: Match, t: &Cochain<F>, y: &mut Cochain<F>)
-    requires few { length columns.now.rows ≤ 4294967295 }
-    requires few_above { columns.now.cols ≤ 4294967295 }
-    requires above { length t.now ≡ columns.now.cols }
-    requires below { length y.old ≡ length columns.now.rows }
-    requires lower { pair.lower < length columns.now.rows }
-    requires upper { pair.upper < columns.now.cols }
-    requires nonzero { entry columns.now.rows pair.lower pair.upper ≢ 0 }
-    ensures { y.new ≡ bump F.ops y.old pair.lower (correction F.ops columns.now.rows t.now pair y.old) }
-{
-    let present = columns.coboundary_at(y, pair.upper);
-    let missing = t.get(pair.upper + 1).add(present.neg());
-    let factor = missing.mul(columns.coefficient(pair.lower, pair.upper).inv());
-    let value = y.get(pair.lower + 1).add(factor);
-    y.set(pair.lower + 1, value);
-}
-
 /// Changes a cochain at the lowers of pairs, one after the other, so that its coboundary at their uppers
 /// is t.
 pub(crate) fn settle<F: Field>(
@@ -45,4 +27,22 @@ pub(crate) fn settle<F: Field>(
     for pair in pairs {
         settle_pair(columns, *pair, t, y);
     }
+}
+
+/// Changes a cochain at the lower of a pair, so that its coboundary at the upper is that of t.
+fn settle_pair<F: Field>(columns: &Columns<F>, pair: Match, t: &Cochain<F>, y: &mut Cochain<F>)
+    requires few { length columns.now.rows ≤ 4294967295 }
+    requires few_above { columns.now.cols ≤ 4294967295 }
+    requires above { length t.now ≡ columns.now.cols }
+    requires below { length y.old ≡ length columns.now.rows }
+    requires lower { pair.lower < length columns.now.rows }
+    requires upper { pair.upper < columns.now.cols }
+    requires nonzero { entry columns.now.rows pair.lower pair.upper ≢ 0 }
+    ensures { y.new ≡ bump F.ops y.old pair.lower (correction F.ops columns.now.rows t.now pair y.old) }
+{
+    let present = columns.coboundary_at(y, pair.upper);
+    let missing = t.get(pair.upper + 1).add(present.neg());
+    let factor = missing.mul(columns.coefficient(pair.lower, pair.upper).inv());
+    let value = y.get(pair.lower + 1).add(factor);
+    y.set(pair.lower + 1, value);
 }

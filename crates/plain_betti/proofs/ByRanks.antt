@@ -1,5 +1,6 @@
 -- The ranks of two coboundaries that follow one another, and what they leave.
 use Rattle.std.proofs.Common.{◌≡◌, ℕ, zero, suc, ◌+◌, ◌≤◌, List, [], length, refl, sym, ◌∙◌, subst, arith}
+use Rattle.face_poset.specs.Poset.{Layers}
 use Rattle.small_field.specs.Field.{Ops, IsField}
 use Rattle.linear_laws.specs.Vectors.{IsMatrix}
 use Rattle.linear_laws.specs.Echelon.{IsReducedTo}
@@ -11,7 +12,7 @@ use Rattle.order_complex.specs.Ranks.{rows_on, rows_of, rows_into}
 use Rattle.order_complex.proofs.CallerLemmas.{chains_of-four, rows_on-matrix, length-rows_of, composition_is_zero}
 use Rattle.plain_betti.specs.Ranks.{IsRank}
 
-module _ (F : Ops) (L : IsField F) (space : List (List (List ℕ))) where
+module _ (F : Ops) (L : IsField F) (space : Layers) where
   -- no rows have rank 0, and rows without columns have too
   no_rows : (n : ℕ) → IsReducedTo F n 0 n [] []
   no_rows n = record {

@@ -1,7 +1,5 @@
 -- A list that is filled from its front.
 use Rattle.std.proofs.Common.{◌≡◌, ℕ, zero, suc, ◌+◌, ◌<◌, ◌≤◌, List, [], ◌∷◌, ◌++◌, map, take, drop, length, set, get_or, refl, ap, ◌∙◌, arith}
-use Rattle.small_field.specs.Field.{Ops}
-use Rattle.linear_laws.specs.Vectors.{IsMatrix}
 use Rattle.std.proofs.lemmas.List.{append-nil, take_all, drop_all, get_or-set_same, set-set}
 
 -- the values of f on the first j of the xs, and after them what stood there
@@ -34,9 +32,3 @@ row_filled_more f j xs d rows row within long more now after v old value new =
     ∙ ap (λ (rs : List (List ℕ)). set rs row (set part j v)) old
     ∙ set-set rows row part (set part j v)
     ∙ ap (set rows row) (ap (set part j) value ∙ filled_more f j xs old_row d long more)
-
--- how long a row of a matrix is
-pub row_long : (F : Ops) (n : ℕ) (rows : List (List ℕ)) (i : ℕ) → IsMatrix F n rows → i < length rows → length (get_or rows i []) ≡ n
-row_long F n [] i m l = absurd (omega arith)
-row_long F n (r ∷ rows) zero m l = m.0.long
-row_long F n (r ∷ rows) (suc i) m l = row_long F n rows i m.1 (omega arith)

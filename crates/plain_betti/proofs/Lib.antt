@@ -1,5 +1,5 @@
-pub mod Filling
-pub mod Markings
-pub mod Coboundaries
-pub mod Reductions
-pub mod ByRanks
+mod ByRanks
+mod Coboundaries
+mod Filling
+mod Markings
+mod Reductions

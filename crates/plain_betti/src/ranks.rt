@@ -12,25 +12,20 @@ use std::alloc::{AllocError, Global};
 use std::sync::ledger::Ledger;
 use step_count::Steps;
 
-/// Puts the coboundary of a cochain of a degree into a row, which is counted from 0.
-fn put_coboundary<F: Field>(
+/// The rank of the coboundary of a degree from 0 to 2. Each row addition of the reduction is one step.
+pub fn coboundary_rank<F: Field, L: Ledger>(
+    alloc: Global,
     chains: &Chains<'_>,
     degree: u8,
-    x: &Cochain<F>,
-    matrix: &mut Matrix<F>,
-    row: u32,
-)
+    steps: &mut Steps<L>,
+) -> Result<u32, AllocError>
     requires degree { degree ≤ 2 }
-    requires cochain { length x.now ≡ length (chains_of chains.now degree) }
-    requires cols { matrix.old.cols ≡ length (chains_of chains.now (degree + 1)) }
-    requires row { row < length matrix.old.rows }
-    ensures cols { matrix.new.cols ≡ matrix.old.cols }
-    ensures rows { matrix.new.rows ≡ slice_set matrix.old.rows row (coboundary_on F.ops (chains_of chains.now degree) (chains_of chains.now (degree + 1)) x.now) }
+    ensures rank { IfOk result (IsRank F.ops (chains_of chains.now degree) (chains_of chains.now (degree + 1))) }
+    ensures steps { steps.new ≤ steps.old + length (chains_of chains.now degree) * length (chains_of chains.now (degree + 1)) }
 {
-    for col in 0..matrix.cols() {
-        let value = chains.coboundary_at(degree, x, col + 1);
-        matrix.set(row, col, value);
-    }
+    let mut matrix = coboundary_matrix::<F>(alloc, chains, degree)?;
+    matrix.reduce(steps);
+    Ok(matrix.rank())
 }
 
 /// The coboundary of a degree from 0 to 2: each row is the coboundary of the cochain that is 1 on one chain
@@ -56,18 +51,23 @@ fn coboundary_matrix<F: Field>(
     Ok(matrix)
 }
 
-/// The rank of the coboundary of a degree from 0 to 2. Each row addition of the reduction is one step.
-pub fn coboundary_rank<F: Field, L: Ledger>(
-    alloc: Global,
+/// Puts the coboundary of a cochain of a degree into a row, which is counted from 0.
+fn put_coboundary<F: Field>(
     chains: &Chains<'_>,
     degree: u8,
-    steps: &mut Steps<L>,
-) -> Result<u32, AllocError>
+    x: &Cochain<F>,
+    matrix: &mut Matrix<F>,
+    row: u32,
+)
     requires degree { degree ≤ 2 }
-    ensures rank { IfOk result (IsRank F.ops (chains_of chains.now degree) (chains_of chains.now (degree + 1))) }
-    ensures steps { steps.new ≤ steps.old + length (chains_of chains.now degree) * length (chains_of chains.now (degree + 1)) }
+    requires cochain { length x.now ≡ length (chains_of chains.now degree) }
+    requires cols { matrix.old.cols ≡ length (chains_of chains.now (degree + 1)) }
+    requires row { row < length matrix.old.rows }
+    ensures cols { matrix.new.cols ≡ matrix.old.cols }
+    ensures rows { matrix.new.rows ≡ slice_set matrix.old.rows row (coboundary_on F.ops (chains_of chains.now degree) (chains_of chains.now (degree + 1)) x.now) }
 {
-    let mut matrix = coboundary_matrix::<F>(alloc, chains, degree)?;
-    matrix.reduce(steps);
-    Ok(matrix.rank())
+    for col in 0..matrix.cols() {
+        let value = chains.coboundary_at(degree, x, col + 1);
+        matrix.set(row, col, value);
+    }
 }

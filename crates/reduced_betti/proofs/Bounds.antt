@@ -6,10 +6,9 @@ use Rattle.linear_laws.specs.Echelon.{IsReduced, IsReducedTo}
 use Rattle.field_matrix.proofs.CallerLemmas.{few_pivots}
 use Rattle.split_laws.specs.declared.kind.Kind.{Kind}
 use Rattle.split_laws.specs.Kinds.{criticals}
-use Rattle.split_laws.specs.Solutions.{IsReducedBy}
 use Rattle.critical_complex.specs.Stages.{Stage}
-use Rattle.critical_complex.specs.Splits.{kinds_at, cells_at, rows_at}
-use Rattle.critical_complex.proofs.Placed.{criticals_few}
+use Rattle.critical_complex.specs.Splits.{kinds_at, IsReducedAt}
+use Rattle.critical_complex.proofs.CallerLemmas.{criticals_few}
 use Rattle.reduced_betti.specs.Ranks.{HasRank}
 
 module _ (F : Ops) (cols rank : ℕ) (rows after : List (List ℕ)) (h : IsReducedTo F cols rank cols rows after) where
@@ -28,7 +27,7 @@ module _ (F : Ops) (cols rank : ℕ) (rows after : List (List ℕ)) (h : IsReduc
 
   -- the rank of a copy of the reduced rows
   pub has_rank : (stages : List Stage) (degree r : ℕ) (source : List (List ℕ)) → cols ≡ criticals (kinds_at stages (degree + 1)) → rows ≡ source → r ≡ rank
-      → IsReducedBy F (cells_at stages degree) (cells_at stages (degree + 1)) (rows_at stages degree) (kinds_at stages degree) (kinds_at stages (degree + 1)) source → HasRank F stages degree r
+      → IsReducedAt F stages degree source → HasRank F stages degree r
   has_rank stages degree r source e f k by = record {
     rows = source;
     reduced = by;

@@ -1,4 +1,3 @@
-pub mod Copies
-pub mod SignedRows
-pub mod Bounds
-pub mod Reduction
+mod Bounds
+mod Reduction
+mod SignedRows

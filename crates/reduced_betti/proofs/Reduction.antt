@@ -1,7 +1,8 @@
 -- The chains with a field of pairs as a complex with a split, and the ranks of its reduced rows.
 use Rattle.std.proofs.Common.{◌≡◌, ℕ, zero, suc, ◌+◌, ◌*◌, ◌<◌, ◌≤◌, List, [], ◌∷◌, length, replicate, get_or, refl, ap, sym, ◌∙◌, subst, arith}
 use Rattle.std.specs.List.{AllByRecursion}
-use Rattle.std.proofs.lemmas.List.{length-replicate, get_or-replicate}
+use Rattle.std.proofs.lemmas.List.{length-replicate, get_or-replicate, get_or_past, nil_from_length}
+use Rattle.face_poset.specs.Poset.{Layers}
 use Rattle.small_field.specs.Field.{Ops, IsField}
 use Rattle.face_poset.specs.declared.cells.Pair.{Pair}
 use Rattle.linear_laws.specs.Vectors.{combination, entry, IsMatrix}
@@ -23,22 +24,14 @@ use Rattle.split_laws.specs.Complex.{before, IsSplitComplex, AreReduced}
 use Rattle.split_laws.specs.Laws.{FieldsSplit, ReducedIsClosed, BettiByReducedRanks}
 use Rattle.critical_complex.specs.Stages.{Stage, empty_stage}
 use Rattle.critical_complex.specs.Splits.{stage_at, kinds_at, cells_at, rows_at, IsReductionOf, IsSplitting}
-use Rattle.order_complex.specs.Numbers.{coboundary_entries}
+use Rattle.order_complex.specs.declared.betti.Betti.{Betti}
+use Rattle.order_complex.specs.Numbers.{AreBetti, coboundary_entries}
 use Rattle.reduced_betti.specs.Ranks.{AreRanks, critical_entries}
 use Rattle.reduced_betti.proofs.Bounds.{few_entries}
 use Rattle.reduced_betti.specs.declared.ranks.Ranks.{Ranks}
 use Rattle.reduced_betti.proofs.SignedRows.{signed-rows_of}
 
--- ---- lists
-
-past : {A : Type 0} (xs : List A) (k : ℕ) (d : A) → length xs ≤ k → get_or xs k d ≡ d
-past [] k d l = refl
-past (x ∷ xs) zero d l = absurd (omega (arith, l))
-past (x ∷ xs) (suc k) d l = past xs k d (omega (arith, l))
-
-no_items : {A : Type 0} (xs : List A) → length xs ≡ 0 → xs ≡ []
-no_items [] e = refl
-no_items (x ∷ xs) e = absurd (omega (arith, e))
+-- ---- kinds
 
 agree_without : (us : List Kind) (xs ys : List ℕ) → HasNoUpper us → length xs ≡ length us → length ys ≡ length us → AgreeOnUppers us xs ys
 agree_without [] xs ys h a b = tt
@@ -117,8 +110,8 @@ module _ (F : Ops) (L : IsField F) where
       subst (λ (vs : List Kind). IsReducedBy F n m rows vs us []) (sym e)
       (record { matrix = tt; long = refl; each = λ i x l h. absurd (omega (arith, l)) })
 
-module _ (F : Ops) (L : IsField F) (space : List (List (List ℕ))) (pairs : List Pair) (stages : List Stage) (h : IsReductionOf F (complex_of space) (negative_in space) pairs stages) where
-  pub cells_are : (degree : ℕ) → degree ≤ 4 → cells_at stages degree ≡ length (chains_of space degree)
+module _ (F : Ops) (L : IsField F) (space : Layers) {pairs : List Pair} {stages : List Stage} (h : IsReductionOf F (complex_of space) (negative_in space) pairs stages) where
+  cells_are : (degree : ℕ) → degree ≤ 4 → cells_at stages degree ≡ length (chains_of space degree)
   cells_are zero l = (h.each 0 (omega arith)).kinds.long ∙ count-chains space 0 (omega arith)
   cells_are (suc zero) l = (h.each 1 (omega arith)).kinds.long ∙ count-chains space 1 (omega arith)
   cells_are (suc (suc zero)) l = (h.each 2 (omega arith)).kinds.long ∙ count-chains space 2 (omega arith)
@@ -145,8 +138,8 @@ module _ (F : Ops) (L : IsField F) (space : List (List (List ℕ))) (pairs : Lis
   no_kinds degree l = by degree l
     where
       by : (k : ℕ) → 4 ≤ k → kinds_at stages k ≡ []
-      by (suc (suc (suc (suc zero)))) l = no_items (kinds_at stages 4) (h.each 4 (omega arith)).kinds.long
-      by (suc (suc (suc (suc (suc k))))) l = ap (λ (s : Stage). s.kinds) (past stages (suc (suc (suc (suc (suc k))))) empty_stage (omega (arith, h.long)))
+      by (suc (suc (suc (suc zero)))) l = nil_from_length (kinds_at stages 4) (h.each 4 (omega arith)).kinds.long
+      by (suc (suc (suc (suc (suc k))))) l = ap (λ (s : Stage). s.kinds) (get_or_past stages (suc (suc (suc (suc (suc k))))) empty_stage (omega (arith, h.long)))
       by _ l = absurd (omega (arith, l))
 
   no_rows : (degree : ℕ) → 4 ≤ degree → rows_at stages degree ≡ []
@@ -154,18 +147,18 @@ module _ (F : Ops) (L : IsField F) (space : List (List (List ℕ))) (pairs : Lis
     where
       by : (k : ℕ) → 4 ≤ k → rows_at stages k ≡ []
       by (suc (suc (suc (suc zero)))) l = (h.each 4 (omega arith)).rows
-      by (suc (suc (suc (suc (suc k))))) l = ap (λ (s : Stage). s.rows) (past stages (suc (suc (suc (suc (suc k))))) empty_stage (omega (arith, h.long)))
+      by (suc (suc (suc (suc (suc k))))) l = ap (λ (s : Stage). s.rows) (get_or_past stages (suc (suc (suc (suc (suc k))))) empty_stage (omega (arith, h.long)))
       by _ l = absurd (omega (arith, l))
 
   -- ---- the complex, with a degree without cells before it
 
-  abbrev pub cells : ℕ → ℕ
+  abbrev cells : ℕ → ℕ
   cells = before 0 (cells_at stages)
 
-  abbrev pub rows : ℕ → List (List ℕ)
+  abbrev rows : ℕ → List (List ℕ)
   rows = before [] (rows_at stages)
 
-  abbrev pub kinds : ℕ → List Kind
+  abbrev kinds : ℕ → List Kind
   kinds = before [] (kinds_at stages)
 
   module _ (s : IsSplitting F stages) (split : FieldsSplit F) where
@@ -207,7 +200,7 @@ module _ (F : Ops) (L : IsField F) (space : List (List (List ℕ))) (pairs : Lis
 
     -- ---- its reduced rows
 
-    module _ (ranks : Ranks) (r : AreRanks F stages ranks) where
+    module _ {ranks : Ranks} (r : AreRanks F stages ranks) where
       abbrev reduced : ℕ → List (List ℕ)
       reduced zero = []
       reduced (suc zero) = r.first.rows
@@ -227,44 +220,48 @@ module _ (F : Ops) (L : IsField F) (space : List (List (List ℕ))) (pairs : Lis
           none_reduced F L (cells_at stages d) (cells_at stages (suc d)) (rows_at stages d) (kinds_at stages d) (kinds_at stages (suc d)) (no_kinds d (omega arith))
 
       -- the rank into a degree
-      abbrev pub IsInto : (degree rank : ℕ) → Type 0
-      IsInto degree rank = (echelon : List (List ℕ)) × IsReducedTo F (criticals (kinds (suc degree))) rank (criticals (kinds (suc degree))) (reduced degree) echelon
+      abbrev pub rank_at : ℕ → ℕ
+      rank_at zero = 0
+      rank_at (suc zero) = ranks.first
+      rank_at (suc (suc zero)) = ranks.second
+      rank_at (suc (suc (suc zero))) = ranks.third
+      rank_at (suc (suc (suc (suc degree)))) = 0
 
-      pub into_zero : IsInto 0 0
-      into_zero = ([], no_pivots F L (criticals (kinds_at stages 0)) [] tt (λ i j l m. absurd (omega (arith, l))))
+      abbrev IsInto : (degree : ℕ) → Type 0
+      IsInto degree = (echelon : List (List ℕ)) × IsReducedTo F (criticals (kinds (suc degree))) (rank_at degree) (criticals (kinds (suc degree))) (reduced degree) echelon
 
-      pub into_one : IsInto 1 ranks.first
-      into_one = (r.first.echelon, r.first.is)
-
-      pub into_two : IsInto 2 ranks.second
-      into_two = (r.second.echelon, r.second.is)
-
-      pub into_three : IsInto 3 ranks.third
-      into_three = (r.third.echelon, r.third.is)
-
-      pub into_four : IsInto 4 0
-      into_four =
+      into : (degree : ℕ) → degree ≤ 4 → IsInto degree
+      into zero l = ([], no_pivots F L (criticals (kinds_at stages 0)) [] tt (λ i j l m. absurd (omega (arith, l))))
+      into (suc zero) l = (r.first.echelon, r.first.is)
+      into (suc (suc zero)) l = (r.second.echelon, r.second.is)
+      into (suc (suc (suc zero))) l = (r.third.echelon, r.third.is)
+      into (suc (suc (suc (suc zero)))) l =
           let nils : List (List ℕ) = replicate (criticals (kinds_at stages 3)) [] in
           (nils, subst (λ (us : List Kind). IsReducedTo F (criticals us) 0 (criticals us) nils nils) (sym (no_kinds 4 (omega arith))) (no_pivots F L 0 nils (nil_rows F L (criticals (kinds_at stages 3))) (λ i j l m. absurd (omega (arith, m)))))
+      into (suc (suc (suc (suc (suc degree))))) l = absurd (omega (arith, l))
 
-      -- both ranks together are at most the number of critical cells
-      pub ranks-fit : BasisByRanks F → ReducedIsClosed F → (degree a b count : ℕ) → count ≡ criticals (kinds_at stages degree) → IsInto degree a → IsInto (suc degree) b → a + b ≤ count
-      ranks-fit law still degree a b count e p q =
+      -- the ranks into and out of a degree are together at most the number of critical cells
+      pub ranks-fit : BasisByRanks F → ReducedIsClosed F → (degree count : ℕ) → degree ≤ 3 → count ≡ criticals (kinds_at stages degree) → rank_at degree + rank_at (suc degree) ≤ count
+      ranks-fit law still degree count small e =
           let n : ℕ = criticals (kinds (suc degree)) in
           let m : ℕ = criticals (kinds (suc (suc degree))) in
           let one = are_reduced degree in
           let two = are_reduced (suc degree) in
-          let basis = law n m a b (reduced degree) (reduced (suc degree)) p.0 q.0 one.matrix two.matrix two.long (still cells rows kinds reduced complex are_reduced degree) p.1 q.1 in
+          let p = into degree (omega (arith, small)) in
+          let q = into (suc degree) (omega (arith, small)) in
+          let basis = law n m (rank_at degree) (rank_at (suc degree)) (reduced degree) (reduced (suc degree)) p.0 q.0 one.matrix two.matrix two.long (still cells rows kinds reduced complex are_reduced degree) p.1 q.1 in
           omega (arith, basis.count, two.long, e)
 
       into_rows : (degree : ℕ) → degree ≤ 3 → rows degree ≡ rows_into F space degree
       into_rows zero l = refl
       into_rows (suc degree) l = rows_are degree (omega arith)
 
-      -- the Betti number is what they leave
-      pub betti-left : BettiByReducedRanks F → (degree a b count betti : ℕ) → degree ≤ 3 → count ≡ criticals (kinds_at stages degree) → IsInto degree a → IsInto (suc degree) b → betti + a + b ≡ count → IsBetti F space degree betti
-      betti-left law degree a b count betti small e p q left =
-          let found = law cells rows kinds reduced complex are_reduced degree betti a b p.0 q.0 p.1 q.1 (left ∙ e) in
+      -- the Betti numbers are what they leave
+      betti-left : BettiByReducedRanks F → (degree betti : ℕ) → degree ≤ 3 → betti + rank_at degree + rank_at (suc degree) ≡ criticals (kinds_at stages degree) → IsBetti F space degree betti
+      betti-left law degree betti small left =
+          let p = into degree (omega (arith, small)) in
+          let q = into (suc degree) (omega (arith, small)) in
+          let found = law cells rows kinds reduced complex are_reduced degree betti (rank_at degree) (rank_at (suc degree)) p.0 q.0 p.1 q.1 left in
           let is : IsCohomologyBasis F (cells_at stages (suc degree)) (rows degree) (rows_at stages degree) found.0 = found.1 in (
             found.0,
             basis_of F L space degree found.0
@@ -273,3 +270,12 @@ module _ (F : Ops) (L : IsField F) (space : List (List (List ℕ))) (pairs : Lis
                 (subst (λ (ls : List (List ℕ)). IsCohomologyBasis F (cells_at stages (suc degree)) ls (rows_at stages degree) found.0) (into_rows degree small) is))),
             found.2,
           )
+
+      pub are_betti : BettiByReducedRanks F → (numbers : Betti) → numbers.zero + rank_at 0 + rank_at 1 ≡ criticals (kinds_at stages 0) → numbers.one + rank_at 1 + rank_at 2 ≡ criticals (kinds_at stages 1)
+          → numbers.two + rank_at 2 + rank_at 3 ≡ criticals (kinds_at stages 2) → numbers.three + rank_at 3 + rank_at 4 ≡ criticals (kinds_at stages 3) → AreBetti F space numbers
+      are_betti law numbers a b c d = record {
+        zero = betti-left law 0 numbers.zero (omega arith) a;
+        one = betti-left law 1 numbers.one (omega arith) b;
+        two = betti-left law 2 numbers.two (omega arith) c;
+        three = betti-left law 3 numbers.three (omega arith) d;
+      }

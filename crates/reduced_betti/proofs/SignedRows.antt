@@ -4,7 +4,7 @@ use Rattle.std.proofs.lemmas.List.{length-map, get_or-map, same_lists}
 use Rattle.std.proofs.lemmas.List.FromFn.{length-map-range_with_len, get_or-map-range_with_len}
 use Rattle.small_field.specs.Field.{Ops, IsField}
 use Rattle.face_poset.specs.Words.{upto, holds}
-use Rattle.face_poset.specs.Poset.{count, facets_of}
+use Rattle.face_poset.specs.Poset.{Layers, count, facets_of}
 use Rattle.number_lists.proofs.CallerLemmas.{length-upto, at-In}
 use Rattle.order_complex.specs.Chains.{chains_of}
 use Rattle.order_complex.specs.Cochains.{leave_out, mark, coboundary_at, coboundary_on}
@@ -19,7 +19,7 @@ nothings [] (y ∷ ys) e = absurd (omega (arith, e))
 nothings (x ∷ xs) [] e = absurd (omega (arith, e))
 nothings (x ∷ xs) (y ∷ ys) e = ap (λ (r : List (List ℕ)). [] ∷ r) (nothings xs ys (omega (arith, e)))
 
-module _ (F : Ops) (L : IsField F) (space : List (List (List ℕ))) where
+module _ (F : Ops) (L : IsField F) (space : Layers) where
   abbrev entry_of : ℕ → ℕ → ℕ → ℕ
   entry_of degree = signed_entry F (complex_of space) (negative_in space) degree
 

@@ -5,7 +5,6 @@
 //! coboundaries into and out of it (discrete Morse theory; R. Forman). The answers are those of all chains.
 #![tactic(auto)]
 
-mod copying;
 mod numbers;
 mod ranks;
 

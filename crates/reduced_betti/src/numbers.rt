@@ -18,12 +18,46 @@ use std::sync::ledger::Ledger;
 use step_count::Steps;
 use vector_field::free_field;
 
-/// The number of critical cells of a degree less the ranks of the reduced coboundaries into and out of it.
-fn cells_left(cells: u32, rank_last: u32, rank_next: u32) -> u32
-    requires { rank_last + rank_next ≤ cells }
-    ensures { result + rank_last + rank_next ≡ cells }
+/// The Betti numbers of a space modulo 2, 3, 5 or 7. A refusal comes where there are more chains than the limit,
+/// carries their number, and takes no step.
+pub fn betti_of<L: Ledger>(
+    alloc: Global,
+    space: &Space,
+    modulus: u8,
+    limit: u32,
+    steps: &mut Steps<L>,
+) -> Result<Betti, ChainFault>
+    requires modulus { IsTrue (is_modulus modulus) }
+    ensures betti { IfOk result (AreBetti (mod_ops modulus) space.now) }
+    ensures within { OnOk result (chain_count space.now ≤ limit) }
+    ensures refused { IfErr result (IsRefused (chain_count space.now) limit) }
+    ensures steps { steps.new ≤ steps.old + coboundary_entries space.now }
+    ensures untouched { limit < chain_count space.now → steps.new ≡ steps.old }
 {
-    cells - rank_last - rank_next
+    let chains = Chains::new(alloc, space, limit)?;
+    match betti_modulo(alloc, &chains, modulus, steps) {
+        Ok(numbers) => Ok(numbers),
+        Err(_) => Err(ChainFault::Memory),
+    }
+}
+
+/// The Betti numbers modulo 2, 3, 5 or 7.
+pub fn betti_modulo<L: Ledger>(
+    alloc: Global,
+    chains: &Chains<'_>,
+    modulus: u8,
+    steps: &mut Steps<L>,
+) -> Result<Betti, AllocError>
+    requires modulus { IsTrue (is_modulus modulus) }
+    ensures betti { IfOk result (AreBetti (mod_ops modulus) chains.now) }
+    ensures steps { steps.new ≤ steps.old + coboundary_entries chains.now }
+{
+    match modulus {
+        2 => betti_numbers::<Gfp<2>, L>(alloc, chains, steps),
+        3 => betti_numbers::<Gfp<3>, L>(alloc, chains, steps),
+        5 => betti_numbers::<Gfp<5>, L>(alloc, chains, steps),
+        _ => betti_numbers::<Gfp<7>, L>(alloc, chains, steps),
+    }
 }
 
 /// The Betti numbers of the order complex of a space, with coefficients in a field: in each degree the length
@@ -53,44 +87,10 @@ pub fn betti_numbers<F: Field, L: Ledger>(
     })
 }
 
-/// The Betti numbers modulo 2, 3, 5 or 7.
-pub fn betti_modulo<L: Ledger>(
-    alloc: Global,
-    chains: &Chains<'_>,
-    modulus: u8,
-    steps: &mut Steps<L>,
-) -> Result<Betti, AllocError>
-    requires modulus { IsTrue (is_modulus modulus) }
-    ensures betti { IfOk result (AreBetti (mod_ops modulus) chains.now) }
-    ensures steps { steps.new ≤ steps.old + coboundary_entries chains.now }
+/// The number of critical cells of a degree less the ranks of the reduced coboundaries into and out of it.
+fn cells_left(cells: u32, rank_last: u32, rank_next: u32) -> u32
+    requires { rank_last + rank_next ≤ cells }
+    ensures { result + rank_last + rank_next ≡ cells }
 {
-    match modulus {
-        2 => betti_numbers::<Gfp<2>, L>(alloc, chains, steps),
-        3 => betti_numbers::<Gfp<3>, L>(alloc, chains, steps),
-        5 => betti_numbers::<Gfp<5>, L>(alloc, chains, steps),
-        _ => betti_numbers::<Gfp<7>, L>(alloc, chains, steps),
-    }
-}
-
-/// The Betti numbers of a space modulo 2, 3, 5 or 7. A refusal comes where there are more chains than the limit,
-/// carries their number, and takes no step.
-pub fn betti_of<L: Ledger>(
-    alloc: Global,
-    space: &Space,
-    modulus: u8,
-    limit: u32,
-    steps: &mut Steps<L>,
-) -> Result<Betti, ChainFault>
-    requires modulus { IsTrue (is_modulus modulus) }
-    ensures betti { IfOk result (AreBetti (mod_ops modulus) space.now) }
-    ensures within { OnOk result (chain_count space.now ≤ limit) }
-    ensures refused { IfErr result (IsRefused (chain_count space.now) limit) }
-    ensures steps { steps.new ≤ steps.old + coboundary_entries space.now }
-    ensures untouched { limit < chain_count space.now → steps.new ≡ steps.old }
-{
-    let chains = Chains::new(alloc, space, limit)?;
-    match betti_modulo(alloc, &chains, modulus, steps) {
-        Ok(numbers) => Ok(numbers),
-        Err(_) => Err(ChainFault::Memory),
-    }
+    cells - rank_last - rank_next
 }

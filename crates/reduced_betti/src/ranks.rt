@@ -4,7 +4,6 @@ ghost use Rattle.split_laws.specs.Kinds.{criticals};
 ghost use Rattle.critical_complex.specs.Splits.{kinds_at};
 ghost use Rattle.reduced_betti.specs.Ranks.{HasRank, AreRanks, critical_entries};
 
-use crate::copying::copied;
 use critical_complex::Reduced;
 use small_field::Field;
 use std::alloc::{AllocError, Global};
@@ -17,6 +16,22 @@ pub struct Ranks {
     pub first: u32,
     pub second: u32,
     pub third: u32,
+}
+
+/// The three ranks.
+pub fn reduced_ranks<F: Field, L: Ledger>(
+    alloc: Global,
+    reduced: &Reduced<F>,
+    steps: &mut Steps<L>,
+) -> Result<Ranks, AllocError>
+    ensures ranks { IfOk result (AreRanks F.ops reduced.now) }
+    ensures steps { steps.new ≤ steps.old + critical_entries reduced.now }
+{
+    Ok(Ranks {
+        first: reduced_rank(alloc, reduced, 0, steps)?,
+        second: reduced_rank(alloc, reduced, 1, steps)?,
+        third: reduced_rank(alloc, reduced, 2, steps)?,
+    })
 }
 
 /// How many critical cells of a degree there are.
@@ -38,23 +53,7 @@ fn reduced_rank<F: Field, L: Ledger>(
     ensures rank { IfOk result (HasRank F.ops reduced.now dim) }
     ensures steps { steps.new ≤ steps.old + criticals (kinds_at reduced.now dim) * criticals (kinds_at reduced.now (dim + 1)) }
 {
-    let mut matrix = copied(alloc, reduced.coboundary_rows(dim))?;
+    let mut matrix = reduced.coboundary_rows(dim).copy(alloc)?;
     matrix.reduce(steps);
     Ok(matrix.rank())
-}
-
-/// The three ranks.
-pub fn reduced_ranks<F: Field, L: Ledger>(
-    alloc: Global,
-    reduced: &Reduced<F>,
-    steps: &mut Steps<L>,
-) -> Result<Ranks, AllocError>
-    ensures ranks { IfOk result (AreRanks F.ops reduced.now) }
-    ensures steps { steps.new ≤ steps.old + critical_entries reduced.now }
-{
-    Ok(Ranks {
-        first: reduced_rank(alloc, reduced, 0, steps)?,
-        second: reduced_rank(alloc, reduced, 1, steps)?,
-        third: reduced_rank(alloc, reduced, 2, steps)?,
-    })
 }

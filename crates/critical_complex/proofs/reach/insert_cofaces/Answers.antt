@@ -1,11 +1,19 @@
-use Rattle.std.proofs.Common.{ℕ, ◌+◌, ◌≤◌, List, get_or, sym, subst, ◌∙◌}
-use Rattle.std.proofs.lemmas.List.{get_or_default}
-use Rattle.vector_field.proofs.CofaceAt.{coface_at}
+use Rattle.std.proofs.Common.{◌≡◌, ◌+◌, ◌∙◌, sym, subst}
+use Rattle.number_lists.specs.Members.{In}
+use Rattle.number_lists.specs.Found.{inserted_all}
+use Rattle.critical_complex.specs.Reaches.{HasMore, HasCofaces}
+use Rattle.critical_complex.proofs.Searched.{on_ok, cofaces_within, more_all, all_found}
 use Rattle.critical_complex.proofs.reach.insert_cofaces.Goals as goal
 
 pub insert_all-requires : goal.insert_all-requires
-insert_all-requires g c k d lt =
-    let space : List (List (List ℕ)) = g.G.Graded.space c.args.graded.now in
-    let a = coface_at space c.args.dim (c.args.place + 1) c.cofaces.result.now c.cofaces.ensures.cofaces k lt in
-    subst (λ (n : ℕ). (1 ≤ n) × (n ≤ c.args.found.now.most)) (get_or_default c.cofaces.result.now k 0 d lt)
-    (a.first, subst (λ (n : ℕ). get_or c.cofaces.result.now k 0 ≤ n) (sym (c.requires.most ∙ c.requires.degrees.above)) a.last)
+insert_all-requires g c = cofaces_within (g.G.Graded.space c.args.graded.now) c.args.dim (c.args.place + 1) c.args.found.now.most c.cofaces.result.now c.cofaces.ensures.cofaces (c.requires.most ∙ c.requires.degrees.above)
+
+pub returns-clause-more : goal.returns-clause-more
+returns-clause-more g c =
+    on_ok c.insert_all.result (c.insert_all.new.self.found ≡ inserted_all c.args.found.now.found c.cofaces.result.now) (HasMore c.args.found.now.found c.insert_all.new.self.found)
+    (more_all c.args.found.now.found c.cofaces.result.now c.insert_all.new.self.found) c.insert_all.ensures.found
+
+pub returns-clause-cofaces : goal.returns-clause-cofaces
+returns-clause-cofaces g c =
+    on_ok c.insert_all.result (c.insert_all.new.self.found ≡ inserted_all c.args.found.now.found c.cofaces.result.now) (HasCofaces (g.G.Graded.space c.args.graded.now) c.args.dim c.args.place c.insert_all.new.self.found)
+    (λ e n m. all_found c.args.found.now.found c.cofaces.result.now c.insert_all.new.self.found e n (subst (In n) (sym c.cofaces.ensures.cofaces) m)) c.insert_all.ensures.found

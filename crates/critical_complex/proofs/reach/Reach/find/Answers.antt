@@ -1,8 +1,7 @@
-use Rattle.std.proofs.Common.{◌≡◌, ◌<◌, length, map, sym, ap, ◌∙◌, subst, All, Result, Ok, Err}
-use Rattle.std.specs.Prelude.{OnOk}
+use Rattle.std.proofs.Common.{◌≡◌, ◌<◌, length, map, sym, ap, ◌∙◌, subst, All}
 use Rattle.critical_complex.specs.Reaches.{AreIndexes, IsReach}
 use Rattle.critical_complex.specs.Units.{pair_at}
-use Rattle.critical_complex.proofs.Searched.{order_within, reach_is}
+use Rattle.critical_complex.proofs.Searched.{on_ok, order_within, reach_is}
 use Rattle.critical_complex.proofs.reach.Reach.find.Goals as goal
 
 pub choose-requires : goal.choose-requires
@@ -10,11 +9,6 @@ choose-requires g c =
     subst (All (λ k. k < length c.args.stage.now.pairs)) (sym c.deref.ensures.value)
     (order_within g.F.Field.ops (g.G.Graded.space c.args.graded.now) (g.G.Signed.negative c.args.graded.now) c.args.dim c.args.stage.now c.args.next.now c.requires.paired c.requires.degrees c.deref-indexes.result.now
     (subst (AreIndexes c.args.stage.now.pairs c.args.next.now.kinds) (sym c.deref-indexes.ensures.value) c.requires.indexes) c.find_cells.new.found.found c.list_order.new.order.items c.in_ok-list_order.ensures)
-
--- what holds at Ok
-on_ok : {T E : Type 0} (r : Result T E) (P Q : Type 0) → (P → Q) → OnOk r P → OnOk r Q
-on_ok (Ok x) P Q f h = f h
-on_ok (Err e) P Q f h = h
 
 pub returns-clause-reach : goal.returns-clause-reach
 returns-clause-reach g c =

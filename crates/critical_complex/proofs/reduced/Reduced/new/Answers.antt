@@ -1,11 +1,12 @@
 use Rattle.std.proofs.Common.{ℕ, List, refl, subst}
+use Rattle.face_poset.specs.Poset.{Layers}
 use Rattle.critical_complex.specs.Splits.{AreMatrices}
 use Rattle.critical_complex.proofs.Matching.{splitting, degrees_of}
 use Rattle.critical_complex.proofs.reduced.Reduced.new.Goals as goal
 
 pub list_matrices-requires : goal.list_matrices-requires
 list_matrices-requires g c =
-    let space : List (List (List ℕ)) = g.G.Graded.space c.args.graded.now in
+    let space : Layers = g.G.Graded.space c.args.graded.now in
     record {
       splitting = splitting g.F.Field.ops g.met.F.Field.laws space (g.G.Signed.negative c.args.graded.now) c.args.field.now.pairs c.in_ok-stages.stages.items c.deref.result.now c.requires.valid c.in_ok-stages.ensures c.deref.ensures.value;
       degrees = degrees_of g.F.Field.ops space (g.G.Signed.negative c.args.graded.now) c.args.field.now.pairs c.in_ok-stages.stages.items c.deref.result.now c.in_ok-stages.ensures c.deref.ensures.value;

@@ -1,7 +1,8 @@
 use Rattle.std.proofs.Common.{◌≡◌, ◌≤◌, List, ℕ, length, ap, ◌∙◌, arith}
 use Rattle.split_laws.specs.Kinds.{criticals}
 use Rattle.critical_complex.specs.Stages.{Stage}
-use Rattle.critical_complex.proofs.Placed.{critical_long, criticals_few}
+use Rattle.critical_complex.proofs.Placed.{critical_long}
+use Rattle.critical_complex.proofs.CallerLemmas.{criticals_few}
 use Rattle.critical_complex.proofs.stage.Stage.criticals.Goals as goal
 
 pub overflow_cast-result : goal.overflow_cast-result

@@ -1,8 +1,9 @@
 use Rattle.std.proofs.Common.{◌≡◌, ◌<◌, ℕ, List, length, get_or, length-set, ap, sym, ◌∙◌, subst, arith}
+use Rattle.std.proofs.lemmas.Grind.{same_number_lists}
 use Rattle.split_laws.specs.Kinds.{criticals, part}
 use Rattle.split_laws.proofs.CallerLemmas.{part-long}
 use Rattle.critical_complex.specs.Stages.{Stage, critical_from}
-use Rattle.critical_complex.proofs.Placed.{index_in, number_is, number_low, number_high, part_step, same_list}
+use Rattle.critical_complex.proofs.Placed.{index_in, number_is, number_low, number_high, part_step}
 use Rattle.critical_complex.proofs.stage.Stage.part.Goals as goal
 
 pub bounds-critical-index : goal.bounds-critical-index
@@ -31,5 +32,5 @@ loop-index-preserved g c =
 
 pub returns : goal.returns
 returns g c =
-    same_list c.loop-index.w (part c.args.self.now.kinds c.args.x.now) (c.loop-index.invariant.long ∙ (c.criticals-count.ensures ∙ sym (part-long c.args.self.now.kinds c.args.x.now c.requires)))
+    same_number_lists c.loop-index.w (part c.args.self.now.kinds c.args.x.now) (c.loop-index.invariant.long ∙ (c.criticals-count.ensures ∙ sym (part-long c.args.self.now.kinds c.args.x.now c.requires)))
     (λ i lt. c.loop-index.invariant.same i (let l : length c.loop-index.w ≡ c.criticals-count.result = c.loop-index.invariant.long in omega arith))

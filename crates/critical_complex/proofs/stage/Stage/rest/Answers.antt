@@ -1,7 +1,7 @@
 use Rattle.std.proofs.Common.{◌≡◌, ◌<◌, ℕ, List, length, length-set, refl, ap, sym, ◌∙◌, subst, arith}
+use Rattle.std.proofs.lemmas.Grind.{same_number_lists}
 use Rattle.split_laws.specs.Kinds.{criticals, part}
 use Rattle.split_laws.specs.Solutions.{without}
-use Rattle.critical_complex.proofs.Placed.{same_list}
 use Rattle.critical_complex.proofs.Filling.{rest_value, entries_more, rest_long}
 use Rattle.critical_complex.proofs.stage.Stage.rest.Goals as goal
 
@@ -23,6 +23,6 @@ pub returns : goal.returns
 returns g c =
     let F = g.F.Field.ops in
     let m : ℕ = length c.args.next.now.kinds in
-    same_list c.loop-index.w (part c.args.next.now.kinds (without F m c.args.self.now.rows c.args.x.now c.args.y.now))
+    same_number_lists c.loop-index.w (part c.args.next.now.kinds (without F m c.args.self.now.rows c.args.x.now c.args.y.now))
     (c.loop-index.invariant.long ∙ (c.criticals-count.ensures ∙ sym (rest_long F g.met.F.Field.laws m c.args.self.now.rows c.args.next.now.kinds c.args.x.now c.args.y.now c.requires.paired.matching.matrix refl c.requires.cochain)))
     (λ i li. c.loop-index.invariant.same i (let l : length c.loop-index.w ≡ c.criticals-count.result = c.loop-index.invariant.long in omega arith))

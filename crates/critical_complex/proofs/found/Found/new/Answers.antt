@@ -1,9 +1,0 @@
-use Rattle.std.proofs.Common.{List, Bool, false, sym, subst, replicate}
-use Rattle.vector_field.specs.Founds.{IsMarked}
-use Rattle.vector_field.proofs.Marked.{marked-none}
-use Rattle.critical_complex.proofs.found.Found.new.Goals as goal
-
-pub invariant_of-result : goal.invariant_of-result
-invariant_of-result c =
-    subst (λ (m : List Bool). IsMarked m c.new.result.items) (sym (c.in_ok-marks.ensures.items_if_clones_equal (λ y e. e)))
-    (subst (λ found. IsMarked (replicate {A = Bool} c.args.most false) found) (sym c.new.ensures.items) (marked-none c.args.most))
