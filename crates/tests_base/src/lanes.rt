@@ -1,0 +1,98 @@
+// Rows modulo each small prime, of each length up to 200, beside sums of single entries.
+ghost use Rattle.std.specs.Prelude.{◌≡◌, ◌<◌, ◌≤◌, All, IfOk, length};
+
+use lane_rows::{add_scaled, compose8, dot, first_nonzero, scale};
+use std::alloc::{AllocError, Global};
+use std::process::Abort;
+use std::test::Fail;
+
+/// The numbers `(step * i + start) mod p`.
+fn row(alloc: Global, len: usize, step: usize, start: usize, p: u8) -> Result<Vec<u8>, AllocError>
+    requires len { len ≤ 200 }
+    requires step { step ≤ 7 }
+    requires start { start ≤ 3 }
+    requires modulus { 0 < p }
+    ensures len { IfOk result (λ v. length v.items ≡ len) }
+    ensures below { IfOk result (λ v. All (λ x. x < p) v.items) }
+{
+    let mut numbers = Vec::new(alloc);
+    for i in 0..len {
+        numbers.push(((step * i + start) % p as usize) as u8)?;
+    }
+    Ok(numbers)
+}
+
+/// The first row less the second: `add_scaled` by the factor -1.
+fn compare_sums(rt: &(impl Abort + AllocGlobal), len: usize, p: u8) -> Result<(), Fail>
+    requires len { len ≤ 200 }
+    requires modulus { 1 < p }
+    requires small { p ≤ 13 }
+{
+    let mut sum = row(rt.alloc(), len, 7, 3, p)?;
+    add_scaled(&mut sum, &row(rt.alloc(), len, 5, 1, p)?, p - 1, p);
+    for (i, found) in sum.iter().enumerate() {
+        let wanted = (2 * i + 2) % p as usize;
+        assert_eq!(rt; *found as usize, wanted, "{p} at {i}");
+    }
+    Ok(())
+}
+
+/// The negatives of a row: `scale` by the factor -1.
+fn compare_multiples(rt: &(impl Abort + AllocGlobal), len: usize, p: u8) -> Result<(), Fail>
+    requires len { len ≤ 200 }
+    requires modulus { 1 < p }
+    requires small { p ≤ 13 }
+{
+    let mut multiple = row(rt.alloc(), len, 7, 3, p)?;
+    scale(&mut multiple, p - 1, p);
+    for (i, found) in multiple.iter().enumerate() {
+        assert_eq!(rt; (*found as usize + 7 * i + 3) % p as usize, 0, "{p} at {i}");
+    }
+    Ok(())
+}
+
+/// The dot product of two rows.
+fn compare_products(rt: &(impl Abort + AllocGlobal), len: usize, p: u8) -> Result<(), Fail>
+    requires len { len ≤ 200 }
+    requires modulus { 1 < p }
+    requires small { p ≤ 13 }
+{
+    let left = row(rt.alloc(), len, 7, 3, p)?;
+    let right = row(rt.alloc(), len, 5, 1, p)?;
+    let mut products: usize = 0;
+    for i in 0..len {
+        products = products.wrapping_add((7 * i + 3) * (5 * i + 1)) % p as usize;
+    }
+    assert_eq!(rt; dot(&left, &right, p) as usize, products, "{p}");
+    Ok(())
+}
+
+#[test]
+fn loops_agree_with_single_entries(rt: HostRuntime) -> Result<(), Fail> {
+    for p in [2u8, 3, 5, 7, 11, 13, 12] {
+        for len in 0..201 {
+            compare_sums(&rt, len, p)?;
+            compare_multiples(&rt, len, p)?;
+            compare_products(&rt, len, p)?;
+        }
+    }
+    Ok(())
+}
+
+#[test]
+fn the_first_number_is_found(rt: HostRuntime) {
+    for (row, wanted) in [
+        ([0u8, 0, 5, 0], Some(2u32)),
+        ([4, 1, 0, 0], Some(0)),
+        ([0, 0, 0, 0], None),
+    ] {
+        assert_eq!(rt; first_nonzero(&row), wanted);
+    }
+}
+
+#[test]
+fn the_first_permutation_comes_first(rt: HostRuntime) {
+    let first = [1, 2, 0, 3, 4, 5, 6, 7];
+    let second = [1, 0, 2, 3, 4, 5, 7, 6];
+    assert_eq!(rt; compose8(&first, &second), [0, 2, 1, 3, 4, 5, 7, 6]);
+}
