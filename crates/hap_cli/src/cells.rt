@@ -29,7 +29,8 @@ pub fn write_cells<K: Sink>(out: &mut K, space: &Space) -> Result<(), Failed>
             faces,
             Piece::Text(b" "),
             solids,
-            Piece::Text(b"\neuler "),
+            Piece::Text(b"\n"),
+            Piece::Text(b"euler "),
             euler,
             Piece::Text(b"\n"),
         ],
@@ -47,7 +48,8 @@ pub fn write_check<K: Sink>(out: &mut K, space: &Space, components: u32) -> Resu
     write_pieces(
         out,
         &[
-            Piece::Text(b"regular\ncomponents "),
+            Piece::Text(b"regular\n"),
+            Piece::Text(b"components "),
             components,
             Piece::Text(b"\n"),
         ],

@@ -1,10 +1,9 @@
 // Inputs that are cubical or permutahedral arrays or arc presentations.
-use crate::running::run_text;
+use crate::running::expect;
 use std::test::Fail;
 
 #[test]
 fn cubical_arrays_are_spaces(rt: HostRuntime) -> Result<(), Fail> {
-    let alloc = rt.alloc();
     for (word, text, out) in [
         (
             "cells",
@@ -23,17 +22,13 @@ fn cubical_arrays_are_spaces(rt: HostRuntime) -> Result<(), Fail> {
         ("betti", b"[[0,1],[1,0]]", b"betti 1 0 0 0\n"),
         ("cells", b"[[[1]]]", b"cells 8 12 6 1\neuler 1\n"),
     ] {
-        let told = run_text(alloc, &[word, "--kind", "cubical"], text)?;
-        assert_eq!(rt; told.status, 0);
-        assert_eq!(rt; told.out.bytes(), out);
-        assert_eq!(rt; told.err.bytes(), b"".as_slice());
+        expect(&rt, &[word, "--kind", "cubical"], text, (0, out, b""))?;
     }
     Ok(())
 }
 
 #[test]
 fn faults_of_arrays_are_named(rt: HostRuntime) -> Result<(), Fail> {
-    let alloc = rt.alloc();
     for (text, err) in [
         (
             b"[[1,1],[1]]".as_slice(),
@@ -46,17 +41,13 @@ fn faults_of_arrays_are_named(rt: HostRuntime) -> Result<(), Fail> {
         (b"[[2],[]]", b"hap: array: not a bit at byte 2\n"),
         (b"[[1],[2,2]]", b"hap: array: ragged at byte 5\n"),
     ] {
-        let told = run_text(alloc, &["cells", "--kind=cubical"], text)?;
-        assert_eq!(rt; told.status, 4);
-        assert_eq!(rt; told.out.bytes(), b"".as_slice());
-        assert_eq!(rt; told.err.bytes(), err);
+        expect(&rt, &["cells", "--kind=cubical"], text, (4, b"", err))?;
     }
     Ok(())
 }
 
 #[test]
 fn permutahedral_arrays_are_spaces(rt: HostRuntime) -> Result<(), Fail> {
-    let alloc = rt.alloc();
     for (word, text, out) in [
         (
             "check",
@@ -70,17 +61,13 @@ fn permutahedral_arrays_are_spaces(rt: HostRuntime) -> Result<(), Fail> {
         ("cells", b"[[1,0],[0,1]]", b"cells 10 11 2 0\neuler 1\n"),
         ("betti", b"[[1,1,1],[1,0,1],[1,1,1]]", b"betti 1 1 0 0\n"),
     ] {
-        let told = run_text(alloc, &[word, "--kind", "permutahedral"], text)?;
-        assert_eq!(rt; told.status, 0);
-        assert_eq!(rt; told.out.bytes(), out);
-        assert_eq!(rt; told.err.bytes(), b"".as_slice());
+        expect(&rt, &[word, "--kind", "permutahedral"], text, (0, out, b""))?;
     }
     Ok(())
 }
 
 #[test]
 fn faults_of_permutahedral_arrays_are_named(rt: HostRuntime) -> Result<(), Fail> {
-    let alloc = rt.alloc();
     for (text, err) in [
         (
             b"[1,1]".as_slice(),
@@ -90,17 +77,13 @@ fn faults_of_permutahedral_arrays_are_named(rt: HostRuntime) -> Result<(), Fail>
         (b"[[0,3]]", b"hap: array: not a bit at byte 4\n"),
         (b"[[[0]]]", b"hap: array: empty\n"),
     ] {
-        let told = run_text(alloc, &["check", "--kind=permutahedral"], text)?;
-        assert_eq!(rt; told.status, 4);
-        assert_eq!(rt; told.out.bytes(), b"".as_slice());
-        assert_eq!(rt; told.err.bytes(), err);
+        expect(&rt, &["check", "--kind=permutahedral"], text, (4, b"", err))?;
     }
     Ok(())
 }
 
 #[test]
 fn knots_and_links_have_their_betti_numbers(rt: HostRuntime) -> Result<(), Fail> {
-    let alloc = rt.alloc();
     for (text, out) in [
         (b"[[1,2],[1,2]]".as_slice(), b"betti 1 1 1 0\n".as_slice()),
         (b"[[1,2],[1,2],[3,4],[3,4]]", b"betti 1 2 2 0\n"),
@@ -110,44 +93,37 @@ fn knots_and_links_have_their_betti_numbers(rt: HostRuntime) -> Result<(), Fail>
         ),
         (b"[[3,5],[4,6],[2,5],[1,3],[2,6],[1,4]]", b"betti 1 1 1 0\n"),
     ] {
-        let told = run_text(alloc, &["betti", "--kind", "arcs"], text)?;
-        assert_eq!(rt; told.status, 0);
-        assert_eq!(rt; told.out.bytes(), out);
-        assert_eq!(rt; told.err.bytes(), b"".as_slice());
-    }
-    Ok(())
-}
-
-#[test]
-fn complements_of_knots_have_their_cells(rt: HostRuntime) -> Result<(), Fail> {
-    let alloc = rt.alloc();
-    for (text, out) in [
-        (
-            b"[ [ 2, 5 ], [ 1, 3 ], [ 2, 4 ], [ 3, 5 ], [ 1, 4 ] ];".as_slice(),
-            b"cells 864 2304 1978 537\neuler 1\n".as_slice(),
-        ),
-        (
-            b"[[3,5],[4,6],[2,5],[1,3],[2,6],[1,4]]",
-            b"cells 1176 3164 2746 757\neuler 1\n",
-        ),
-    ] {
-        let told = run_text(alloc, &["cells", "--kind", "arcs"], text)?;
-        assert_eq!(rt; told.status, 0);
-        assert_eq!(rt; told.out.bytes(), out);
-        assert_eq!(rt; told.err.bytes(), b"".as_slice());
+        expect(&rt, &["betti", "--kind", "arcs"], text, (0, out, b""))?;
     }
     Ok(())
 }
 
 #[test]
 fn arc_presentations_are_complements(rt: HostRuntime) -> Result<(), Fail> {
-    let alloc = rt.alloc();
-    let told = run_text(alloc, &["check", "--kind", "arcs"], b"[[1,2],[1,2]]")?;
-    assert_eq!(rt; told.status, 0);
-    assert_eq!(rt;
-        told.out.bytes(),
-        b"cells 216 540 434 109\neuler 1\nregular\ncomponents 1\n".as_slice()
-    );
+    for (word, text, out) in [
+        (
+            "check",
+            b"[[1,2],[1,2]]".as_slice(),
+            b"cells 216 540 434 109\neuler 1\nregular\ncomponents 1\n".as_slice(),
+        ),
+        (
+            "cells",
+            b"[ [ 2, 5 ], [ 1, 3 ], [ 2, 4 ], [ 3, 5 ], [ 1, 4 ] ];",
+            b"cells 864 2304 1978 537\neuler 1\n",
+        ),
+        (
+            "cells",
+            b"[[3,5],[4,6],[2,5],[1,3],[2,6],[1,4]]",
+            b"cells 1176 3164 2746 757\neuler 1\n",
+        ),
+    ] {
+        expect(&rt, &[word, "--kind", "arcs"], text, (0, out, b""))?;
+    }
+    Ok(())
+}
+
+#[test]
+fn faults_of_arc_presentations_are_named(rt: HostRuntime) -> Result<(), Fail> {
     for (text, err) in [
         (
             b"[[1,2],[1,1]]".as_slice(),
@@ -156,10 +132,7 @@ fn arc_presentations_are_complements(rt: HostRuntime) -> Result<(), Fail> {
         (b"[[1,2],[1,3],[1,3]]", b"hap: array: column 1\n"),
         (b"[]", b"hap: array: empty\n"),
     ] {
-        let told = run_text(alloc, &["cells", "--kind", "arcs"], text)?;
-        assert_eq!(rt; told.status, 4);
-        assert_eq!(rt; told.out.bytes(), b"".as_slice());
-        assert_eq!(rt; told.err.bytes(), err);
+        expect(&rt, &["cells", "--kind", "arcs"], text, (4, b"", err))?;
     }
     Ok(())
 }

@@ -1,6 +1,7 @@
 // The command `betti`.
-use crate::check::{CIRCLE, PLANE, POINT, SPHERE, TORUS, WEDGE};
-use crate::running::run_text;
+use crate::running::expect;
+use crate::worked::{CIRCLE, PLANE, POINT, SPHERE, TORUS, WEDGE};
+use std::alloc::{AllocError, Global};
 use std::test::Fail;
 
 /// Two vertices and fourteen edges between them.
@@ -9,7 +10,6 @@ const EDGES: &[u8] =
 
 #[test]
 fn betti_numbers_are_written(rt: HostRuntime) -> Result<(), Fail> {
-    let alloc = rt.alloc();
     for (text, even, odd) in [
         (
             POINT,
@@ -24,10 +24,7 @@ fn betti_numbers_are_written(rt: HostRuntime) -> Result<(), Fail> {
         (EDGES, b"betti 1 13 0 0\n", b"betti 1 13 0 0\n"),
     ] {
         for (modulus, out) in [("2", even), ("3", odd), ("5", odd), ("7", odd)] {
-            let told = run_text(alloc, &["betti", "--mod", modulus], text)?;
-            assert_eq!(rt; told.status, 0);
-            assert_eq!(rt; told.out.bytes(), out);
-            assert_eq!(rt; told.err.bytes(), b"".as_slice());
+            expect(&rt, &["betti", "--mod", modulus], text, (0, out, b""))?;
         }
     }
     Ok(())
@@ -35,30 +32,33 @@ fn betti_numbers_are_written(rt: HostRuntime) -> Result<(), Fail> {
 
 #[test]
 fn the_modulus_is_two_unless_given(rt: HostRuntime) -> Result<(), Fail> {
-    let alloc = rt.alloc();
     for (words, out) in [
         (["betti"].as_slice(), b"betti 1 1 1 0\n".as_slice()),
         (&["betti", "--mod", "05"], b"betti 1 0 0 0\n"),
         (&["--mod=7", "betti"], b"betti 1 0 0 0\n"),
     ] {
-        let told = run_text(alloc, words, PLANE)?;
-        assert_eq!(rt; told.status, 0);
-        assert_eq!(rt; told.out.bytes(), out);
+        expect(&rt, words, PLANE, (0, out, b""))?;
     }
     Ok(())
 }
 
+/// The text of a space of so many vertices, at least one.
+fn vertices(alloc: Global, count: u32) -> Result<String, AllocError> {
+    let mut text = String::from_str(alloc, "[[[1,0]")?;
+    for _ in 1..count {
+        text.push_str(",[1,0]")?;
+    }
+    text.push_str("]]")?;
+    Ok(text)
+}
+
 #[test]
 fn many_chains_are_taken(rt: HostRuntime) -> Result<(), Fail> {
-    let alloc = rt.alloc();
-    let mut text = Vec::new(alloc);
-    text.extend_from_slice(b"[[[1,0]")?;
-    for _point in 1..2001 {
-        text.extend_from_slice(b",[1,0]")?;
-    }
-    text.extend_from_slice(b"]]")?;
-    let told = run_text(alloc, &["betti"], &text)?;
-    assert_eq!(rt; told.status, 0);
-    assert_eq!(rt; told.out.bytes(), b"betti 2001 0 0 0\n".as_slice());
-    Ok(())
+    let text = vertices(rt.alloc(), 2001)?;
+    expect(
+        &rt,
+        &["betti"],
+        text.as_bytes(),
+        (0, b"betti 2001 0 0 0\n", b""),
+    )
 }

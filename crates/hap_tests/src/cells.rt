@@ -1,12 +1,10 @@
 // The command `cells`.
-use crate::running::run_text;
+use crate::running::expect;
+use crate::worked::POINT;
 use std::test::Fail;
-
-const POINT: &[u8] = b"[[[1,0]]]";
 
 #[test]
 fn cells_are_counted(rt: HostRuntime) -> Result<(), Fail> {
-    let alloc = rt.alloc();
     for (input, text) in [
         (POINT, b"cells 1 0 0 0\neuler 1\n".as_slice()),
         (
@@ -26,18 +24,14 @@ fn cells_are_counted(rt: HostRuntime) -> Result<(), Fail> {
             b"cells 2 2 0 0\neuler 0\n",
         ),
     ] {
-        let told = run_text(alloc, &["cells"], input)?;
-        assert_eq!(rt; told.status, 0);
-        assert_eq!(rt; told.out.bytes(), text);
-        assert_eq!(rt; told.err.bytes(), b"".as_slice());
+        expect(&rt, &["cells"], input, (0, text, b""))?;
     }
     Ok(())
 }
 
 #[test]
 fn refusals_have_their_status_and_line(rt: HostRuntime) -> Result<(), Fail> {
-    let alloc = rt.alloc();
-    let long = vec![in alloc; 32u8; 16_777_217]?;
+    let long = vec![in rt.alloc(); 32u8; 16_777_217]?;
     for (input, status, line) in [
         (
             b"[1,".as_slice(),
@@ -71,10 +65,7 @@ fn refusals_have_their_status_and_line(rt: HostRuntime) -> Result<(), Fail> {
         (b"[[1..60001]]", 5, b"hap: limit: cells over 60000\n"),
         (&long, 5, b"hap: limit: input over 16777216 bytes\n"),
     ] {
-        let told = run_text(alloc, &["cells"], input)?;
-        assert_eq!(rt; told.status, status);
-        assert_eq!(rt; told.out.bytes(), b"".as_slice());
-        assert_eq!(rt; told.err.bytes(), line);
+        expect(&rt, &["cells"], input, (status, b"", line))?;
     }
     Ok(())
 }

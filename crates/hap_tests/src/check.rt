@@ -1,24 +1,10 @@
 // The command `check`.
-use crate::running::run_text;
+use crate::running::expect;
+use crate::worked::{CIRCLE, PLANE, POINT, SPHERE, TORUS, WEDGE};
 use std::test::Fail;
-
-pub const POINT: &[u8] = b"[[[1,0]]]";
-
-pub const CIRCLE: &[u8] = b"[[[1,0],[1,0]],[[2,1,2],[2,1,2]]]";
-
-pub const WEDGE: &[u8] = b"[[[1,0],[1,0],[1,0]],[[2,1,2],[2,1,2],[2,1,3],[2,1,3]]]";
-
-pub const PLANE: &[u8] =
-    b"[[[1,0],[1,0],[1,0],[1,0]],[[2,1,2],[2,1,3],[2,1,4],[2,2,3],[2,2,4],[2,3,4]],[[4,1,3,4,6],[4,1,2,5,6],[4,2,3,4,5]]]";
-
-pub const TORUS: &[u8] =
-    b"[[[1,0],[1,0],[1,0],[1,0]],[[2,1,2],[2,1,2],[2,1,3],[2,2,4],[2,3,4],[2,3,4],[2,1,3],[2,2,4]],[[4,1,3,4,5],[4,2,3,4,6],[4,1,5,7,8],[4,2,6,7,8]]]";
-
-pub const SPHERE: &[u8] = b"[[[1,0],[1,0]],[[2,1,2],[2,1,2]],[[2,1,2],[2,1,2]],[[2,1,2],[2,1,2]]]";
 
 #[test]
 fn regular_spaces_have_components(rt: HostRuntime) -> Result<(), Fail> {
-    let alloc = rt.alloc();
     for (text, out) in [
         (
             POINT,
@@ -34,17 +20,13 @@ fn regular_spaces_have_components(rt: HostRuntime) -> Result<(), Fail> {
             b"cells 2 0 0 0\neuler 2\nregular\ncomponents 2\n",
         ),
     ] {
-        let told = run_text(alloc, &["check"], text)?;
-        assert_eq!(rt; told.status, 0);
-        assert_eq!(rt; told.out.bytes(), out);
-        assert_eq!(rt; told.err.bytes(), b"".as_slice());
+        expect(&rt, &["check"], text, (0, out, b""))?;
     }
     Ok(())
 }
 
 #[test]
 fn broken_rules_are_named(rt: HostRuntime) -> Result<(), Fail> {
-    let alloc = rt.alloc();
     for (text, err) in [
         (
             b"[[[1,0],[1,0],[1,0],[1,0]],[[2,1,2],[2,1,2],[2,1,3],[2,2,4],[2,3,4],[2,3,4],[2,1,3],[2,2,4]],[[4,1,3,4,5],[4,2,3,4,6],[4,1,5,7,8],[4,2,6,7,8]],[[4,1,2,3,4]]]".as_slice(),
@@ -65,10 +47,7 @@ fn broken_rules_are_named(rt: HostRuntime) -> Result<(), Fail> {
         ),
     ] {
         for word in ["check", "betti"] {
-            let told = run_text(alloc, &[word], text)?;
-            assert_eq!(rt; told.status, 4);
-            assert_eq!(rt; told.out.bytes(), b"".as_slice());
-            assert_eq!(rt; told.err.bytes(), err);
+            expect(&rt, &[word], text, (4, b"", err))?;
         }
     }
     Ok(())

@@ -1,4 +1,4 @@
-//! Tests of the whole program, through its one public call.
+//! Tests of the whole program, through its one public call, and of the words of the command line.
 //!
 //! They show what no clause says: that runs succeed where there is memory, and the texts of worked examples.
 #![tactic(auto)]
@@ -10,11 +10,9 @@ mod betti;
 #[cfg(test)]
 mod cells;
 #[cfg(test)]
-mod chains;
-#[cfg(test)]
 mod check;
 #[cfg(test)]
-mod fields;
+mod commands;
 #[cfg(test)]
 mod make;
 #[cfg(test)]
@@ -23,3 +21,5 @@ mod outside;
 mod running;
 #[cfg(test)]
 mod words;
+#[cfg(test)]
+mod worked;

@@ -1,5 +1,5 @@
 // The words of the command line.
-use crate::running::run_text;
+use crate::running::expect;
 use std::test::Fail;
 
 const USAGE: &[u8] =
@@ -7,7 +7,6 @@ const USAGE: &[u8] =
 
 #[test]
 fn other_words_are_usage(rt: HostRuntime) -> Result<(), Fail> {
-    let alloc = rt.alloc();
     let lines: [&[&str]; 27] = [
         &[],
         &["cells", "--mod", "2"],
@@ -38,10 +37,7 @@ fn other_words_are_usage(rt: HostRuntime) -> Result<(), Fail> {
         &["cells", "--sheets", "2"],
     ];
     for line in lines {
-        let told = run_text(alloc, line, b"[[[1,0]]]")?;
-        assert_eq!(rt; told.status, 2);
-        assert_eq!(rt; told.out.bytes(), b"".as_slice());
-        assert_eq!(rt; told.err.bytes(), USAGE);
+        expect(&rt, line, b"[[[1,0]]]", (2, b"", USAGE))?;
     }
     Ok(())
 }
