@@ -7,4 +7,5 @@ pub mod Table
 pub mod Reads
 pub mod Ranges
 pub use Rattle.sheet_tables.specs.Positions
+pub use Rattle.sheet_tables.specs.Spots
 pub use Rattle.small_field.specs.Modulus

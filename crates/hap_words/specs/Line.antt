@@ -2,7 +2,7 @@
 --   option_rule name     an option `--name` with one value
 --   command_rule         the required word
 --   bare_app             the required word alone; no option for help
---   hap_app              the word with the eight options
+--   hap_app              the word with the nine options
 use Rattle.std.specs.Prelude.{true, codes}
 use Rattle.std.specs.declared.option.Option.TheVariants.{Some}
 use Rattle.clap.specs.Words.{App, Rule, Text, new_app, new_rule, with_rule}
@@ -20,4 +20,5 @@ bare_app = with_rule (record (new_app (codes "hap")) { top = record (new_app (co
 unfoldable pub hap_app : App
 hap_app =
     let four = with_rule (with_rule (with_rule (with_rule bare_app (option_rule (codes "kind"))) (option_rule (codes "in"))) (option_rule (codes "mod"))) (option_rule (codes "sheets")) in
-    with_rule (with_rule (with_rule (with_rule four (option_rule (codes "budget"))) (option_rule (codes "from"))) (option_rule (codes "index"))) (option_rule (codes "size"))
+    let eight = with_rule (with_rule (with_rule (with_rule four (option_rule (codes "budget"))) (option_rule (codes "from"))) (option_rule (codes "index"))) (option_rule (codes "size")) in
+    with_rule eight (option_rule (codes "component"))

@@ -7,10 +7,13 @@
 --   text_under rows name      the text that was given under an option
 --   fits verb rows            only options that the command takes are given
 --   value_or, value_if, value_of   an option with a default, one that may be left out, one that must be given
---   modulus, modulus_if, sheets, budget, index, size, from, kind, source   the value of each option
+--   modulus, modulus_if, sheets, budget, index, component, size, from, kind, source   the value of each option
+--   input_asked, field_asked, name_asked, covers_asked, cover_asked, report_asked, make_asked   the values of the
+--                             options of a command, where each has one
 --   asked_by verb rows        the command with its values, where each has one
 --   verb_given rows           the command that is named
 --   asked words               what the words ask for, where `clap` takes them and the table has it
+--   verb_of asked             the command without its values
 --   verb_is_built, is_built   the commands that are built
 --   read words                what the words ask for, where that is built
 --   number_of_name, names, fits_at, if_modulus, modulus_of, number_under, with, asked_given, unless_faulty, if_built: steps
@@ -20,7 +23,7 @@ use Rattle.std.specs.declared.option.Option.TheVariants.{Some, None}
 use Rattle.std.specs.List.{list_all, list_any}
 use Rattle.clap.specs.declared.error.kind.ErrorKind.{ErrorKind}
 use Rattle.clap.specs.Words.{Row, Text, fault_of, first_of, matches_of}
-use Rattle.sheet_tables.specs.Positions.{position_from}
+use Rattle.sheet_tables.specs.Spots.{spot_from}
 use Rattle.hap_words.specs.declared.command.Kind.{Kind}
 use Rattle.hap_words.specs.declared.command.Kind.TheVariants.{Boundary, Cubical, Permutahedral, Arcs}
 use Rattle.hap_words.specs.declared.table.Verb.{Verb}
@@ -28,16 +31,16 @@ use Rattle.hap_words.specs.declared.table.Verb.TheVariants as verb
 use Rattle.hap_words.specs.declared.table.Name.{Name}
 use Rattle.hap_words.specs.declared.table.Name.TheVariants as name
 use Rattle.hap_words.specs.Line.{hap_app}
-use Rattle.hap_words.specs.Texts.{named, number_between}
+use Rattle.hap_words.specs.Texts.{named, number_of, number_between}
 use Rattle.small_field.specs.Modulus.{is_modulus}
-use Rattle.hap_words.specs.Asked.{Asked, Source, SearchPlace, cells, check, betti, cup, verify, group, covers, cover, report, make}
+use Rattle.hap_words.specs.Asked.{Asked, Source, SearchSpot, InputAsked, FieldAsked, NameAsked, CoversAsked, CoverAsked, ReportAsked, MakeAsked, cells, check, betti, cup, verify, migrate, group, covers, cover, report, make}
 
 -- ---- the words
 
 abbrev pub verbs : List (Text × Verb)
 verbs =
     (codes "cells", verb.Cells) ∷ (codes "check", verb.Check) ∷ (codes "betti", verb.Betti) ∷ (codes "cup", verb.Cup) ∷ (codes "verify", verb.Verify)
-    ∷ (codes "group", verb.Group) ∷ (codes "covers", verb.Covers) ∷ (codes "cover", verb.Cover) ∷ (codes "report", verb.Report) ∷ (codes "make", verb.Make) ∷ []
+    ∷ (codes "migrate", verb.Migrate) ∷ (codes "group", verb.Group) ∷ (codes "covers", verb.Covers) ∷ (codes "cover", verb.Cover) ∷ (codes "report", verb.Report) ∷ (codes "make", verb.Make) ∷ []
 
 abbrev pub kinds : List (Text × Kind)
 kinds = (codes "boundary", Boundary) ∷ (codes "cubical", Cubical) ∷ (codes "permutahedral", Permutahedral) ∷ (codes "arcs", Arcs) ∷ []
@@ -50,9 +53,10 @@ names_of verb.Check = name.Kind ∷ name.In ∷ []
 names_of verb.Betti = name.Kind ∷ name.In ∷ name.Mod ∷ []
 names_of verb.Cup = name.Kind ∷ name.In ∷ name.Mod ∷ []
 names_of verb.Verify = name.In ∷ []
+names_of verb.Migrate = name.In ∷ []
 names_of verb.Group = name.Kind ∷ name.In ∷ []
 names_of verb.Covers = name.Kind ∷ name.In ∷ name.Sheets ∷ name.Budget ∷ name.From ∷ []
-names_of verb.Cover = name.Kind ∷ name.In ∷ name.Sheets ∷ name.Index ∷ name.Budget ∷ name.Mod ∷ []
+names_of verb.Cover = name.Kind ∷ name.In ∷ name.Sheets ∷ name.Index ∷ name.Budget ∷ name.Component ∷ name.Mod ∷ []
 names_of verb.Report = name.Kind ∷ name.In ∷ name.Mod ∷ name.Sheets ∷ name.Budget ∷ name.From ∷ []
 names_of verb.Make = name.Size ∷ name.Mod ∷ []
 
@@ -65,12 +69,13 @@ number_of_name name.Budget = 4
 number_of_name name.From = 5
 number_of_name name.Index = 6
 number_of_name name.Size = 7
+number_of_name name.Component = 8
 
 abbrev pub takes : Verb → Name → Bool
 takes v n = list_any (λ m. number_of_name m == number_of_name n) (names_of v)
 
 abbrev pub names : List Name
-names = name.Kind ∷ name.In ∷ name.Mod ∷ name.Sheets ∷ name.Budget ∷ name.From ∷ name.Index ∷ name.Size ∷ []
+names = name.Kind ∷ name.In ∷ name.Mod ∷ name.Sheets ∷ name.Budget ∷ name.From ∷ name.Index ∷ name.Size ∷ name.Component ∷ []
 
 abbrev pub word_of : Name → Text
 word_of name.Kind = codes "kind"
@@ -81,6 +86,7 @@ word_of name.Budget = codes "budget"
 word_of name.From = codes "from"
 word_of name.Index = codes "index"
 word_of name.Size = codes "size"
+word_of name.Component = codes "component"
 
 abbrev pub text_under : List Row → Name → Option Text
 text_under rows n = first_of (word_of n) rows
@@ -110,7 +116,7 @@ if_modulus None = None
 if_modulus (Some n) = if is_modulus n then Some n else None
 
 abbrev pub modulus_of : Text → Option ℕ
-modulus_of text = if_modulus (number_between 2 7 text)
+modulus_of text = if_modulus (number_of text)
 
 abbrev pub modulus : List Row → Option ℕ
 modulus rows = value_or 2 modulus_of (text_under rows name.Mod)
@@ -122,7 +128,7 @@ abbrev pub number_under : List Row → Name → (least most : ℕ) → Option �
 number_under rows n least most = value_of (number_between least most) (text_under rows n)
 
 abbrev pub sheets : List Row → Option ℕ
-sheets rows = number_under rows name.Sheets 1 5
+sheets rows = number_under rows name.Sheets 1 8
 
 abbrev pub budget : List Row → Option ℕ
 budget rows = value_or 10000000 (number_between 1 1000000000000000) (text_under rows name.Budget)
@@ -130,11 +136,14 @@ budget rows = value_or 10000000 (number_between 1 1000000000000000) (text_under 
 abbrev pub index : List Row → Option ℕ
 index rows = number_under rows name.Index 1 1000000000
 
+abbrev pub component : List Row → Option ℕ
+component rows = value_or 1 (number_between 1 60000) (text_under rows name.Component)
+
 abbrev pub size : List Row → Option ℕ
 size rows = number_under rows name.Size 2 19
 
-abbrev pub from : List Row → Option SearchPlace
-from rows = value_or (0, []) position_from (text_under rows name.From)
+abbrev pub from : List Row → Option SearchSpot
+from rows = value_or (1, 0, []) spot_from (text_under rows name.From)
 
 abbrev pub kind : List Row → Option Kind
 kind rows = value_or Boundary (named kinds) (text_under rows name.Kind)
@@ -148,17 +157,45 @@ abbrev pub with : {A B : Type 0} → Option A → (A → Option B) → Option B
 with None go = None
 with (Some a) go = go a
 
+abbrev pub input_asked : List Row → Option InputAsked
+input_asked rows = with (source rows) (λ s. Some (record { source = s }))
+
+abbrev pub field_asked : List Row → Option FieldAsked
+field_asked rows = with (source rows) (λ s. with (modulus rows) (λ p. Some (record { source = s; modulus = p })))
+
+abbrev pub name_asked : List Row → Option NameAsked
+name_asked rows = Some (record { name = text_under rows name.In })
+
+abbrev pub covers_asked : List Row → Option CoversAsked
+covers_asked rows =
+    with (source rows) (λ s. with (sheets rows) (λ n. with (budget rows) (λ b. with (from rows) (λ t.
+    Some (record { source = s; sheets = n; budget = b; from = t })))))
+
+abbrev pub cover_asked : List Row → Option CoverAsked
+cover_asked rows =
+    with (source rows) (λ s. with (sheets rows) (λ n. with (index rows) (λ i. with (component rows) (λ c. with (budget rows) (λ b. with (modulus_if rows) (λ p.
+    Some (record { source = s; sheets = n; index = i; component = c; budget = b; modulus = p })))))))
+
+abbrev pub report_asked : List Row → Option ReportAsked
+report_asked rows =
+    with (source rows) (λ s. with (modulus rows) (λ p. with (sheets rows) (λ n. with (budget rows) (λ b. with (from rows) (λ t.
+    Some (record { source = s; modulus = p; sheets = n; budget = b; from = t }))))))
+
+abbrev pub make_asked : List Row → Option MakeAsked
+make_asked rows = with (size rows) (λ n. with (modulus_if rows) (λ p. Some (record { size = n; modulus = p })))
+
 abbrev pub asked_by : Verb → List Row → Option Asked
-asked_by verb.Cells rows = with (source rows) (λ s. Some (cells s))
-asked_by verb.Check rows = with (source rows) (λ s. Some (check s))
-asked_by verb.Betti rows = with (source rows) (λ s. with (modulus rows) (λ p. Some (betti s p)))
-asked_by verb.Cup rows = with (source rows) (λ s. with (modulus rows) (λ p. Some (cup s p)))
-asked_by verb.Verify rows = Some (verify (text_under rows name.In))
-asked_by verb.Group rows = with (source rows) (λ s. Some (group s))
-asked_by verb.Covers rows = with (source rows) (λ s. with (sheets rows) (λ n. with (budget rows) (λ b. with (from rows) (λ t. Some (covers s n b t)))))
-asked_by verb.Cover rows = with (source rows) (λ s. with (sheets rows) (λ n. with (index rows) (λ i. with (budget rows) (λ b. with (modulus_if rows) (λ p. Some (cover s n i b p))))))
-asked_by verb.Report rows = with (source rows) (λ s. with (modulus rows) (λ p. with (sheets rows) (λ n. with (budget rows) (λ b. with (from rows) (λ t. Some (report s p n b t))))))
-asked_by verb.Make rows = with (size rows) (λ n. with (modulus_if rows) (λ p. Some (make n p)))
+asked_by verb.Cells rows = option_map cells (input_asked rows)
+asked_by verb.Check rows = option_map check (input_asked rows)
+asked_by verb.Betti rows = option_map betti (field_asked rows)
+asked_by verb.Cup rows = option_map cup (field_asked rows)
+asked_by verb.Verify rows = option_map verify (name_asked rows)
+asked_by verb.Migrate rows = option_map migrate (name_asked rows)
+asked_by verb.Group rows = option_map group (input_asked rows)
+asked_by verb.Covers rows = option_map covers (covers_asked rows)
+asked_by verb.Cover rows = option_map cover (cover_asked rows)
+asked_by verb.Report rows = option_map report (report_asked rows)
+asked_by verb.Make rows = option_map make (make_asked rows)
 
 abbrev pub verb_given : List Row → Option Verb
 verb_given rows = with (first_of (codes "command") rows) (named verbs)
@@ -182,17 +219,21 @@ verb_is_built verb.Betti = true
 verb_is_built verb.Make = true
 verb_is_built other = false
 
+abbrev pub verb_of : Asked → Verb
+verb_of (cells a) = verb.Cells
+verb_of (check a) = verb.Check
+verb_of (betti a) = verb.Betti
+verb_of (cup a) = verb.Cup
+verb_of (verify a) = verb.Verify
+verb_of (migrate a) = verb.Migrate
+verb_of (group a) = verb.Group
+verb_of (covers a) = verb.Covers
+verb_of (cover a) = verb.Cover
+verb_of (report a) = verb.Report
+verb_of (make a) = verb.Make
+
 abbrev pub is_built : Asked → Bool
-is_built (cells s) = verb_is_built verb.Cells
-is_built (check s) = verb_is_built verb.Check
-is_built (betti s p) = verb_is_built verb.Betti
-is_built (cup s p) = verb_is_built verb.Cup
-is_built (verify name) = verb_is_built verb.Verify
-is_built (group s) = verb_is_built verb.Group
-is_built (covers s n b t) = verb_is_built verb.Covers
-is_built (cover s n i b p) = verb_is_built verb.Cover
-is_built (report s p n b t) = verb_is_built verb.Report
-is_built (make n p) = verb_is_built verb.Make
+is_built a = verb_is_built (verb_of a)
 
 abbrev pub if_built : Option Asked → Option Asked
 if_built None = None

@@ -8,6 +8,9 @@ mod reader;
 mod table;
 mod texts;
 
-pub use command::{Command, Input, Kind};
+pub use command::{
+    Command, CoverOptions, CoversOptions, FieldOptions, Input, InputOptions, Kind, MakeOptions,
+    NameOptions, ReportOptions,
+};
 pub use fault::WordsFault;
 pub use reader::{read, read_any};

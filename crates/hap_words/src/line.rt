@@ -25,7 +25,8 @@ fn hap<'a>(alloc: Global) -> Result<Command<'a>, AllocError>
     let budget = with_option(sheets, alloc, "budget")?;
     let from = with_option(budget, alloc, "from")?;
     let index = with_option(from, alloc, "index")?;
-    with_option(index, alloc, "size")
+    let size = with_option(index, alloc, "size")?;
+    with_option(size, alloc, "component")
 }
 
 fn with_option<'a>(

@@ -3,18 +3,21 @@ ghost use Rattle.std.specs.Prelude.{◌≡◌, ◌&&◌, true, codes, map, strin
 ghost use Rattle.std.specs.declared.option.Option.TheVariants.{Some, None};
 ghost use Rattle.clap.specs.Words.{rows_of, found_of, first_of};
 ghost use Rattle.hap_words.specs.Reads.{Reads};
-ghost use Rattle.hap_words.specs.Asked.{asked_of, source_of, place_of};
+ghost use Rattle.hap_words.specs.Asked.{asked_of, source_of, input_of, field_of, name_of, covers_of, cover_of, report_of, make_of, spot_of};
 ghost use Rattle.hap_words.specs.Ranges.{is_in_range};
 ghost use Rattle.hap_words.specs.Table as table;
 
-use crate::command::{Command, Input, Kind};
+use crate::command::{
+    Command, CoverOptions, CoversOptions, FieldOptions, Input, InputOptions, Kind, MakeOptions,
+    NameOptions, ReportOptions,
+};
 use crate::fault::WordsFault;
 use crate::line::match_words;
 use crate::table::{Name, Verb, is_taken, is_verb_built, kind_of_word, option_word, verb_of_word};
-use crate::texts::read_number_between;
+use crate::texts::{read_number, read_number_between};
 use clap::ArgMatches;
 use clap::error::ErrorKind;
-use sheet_tables::{Position, PositionFault};
+use sheet_tables::{PositionFault, Spot};
 use std::alloc::Global;
 
 /// The command that the words, those after the program's name, ask for, where the command is built.
@@ -34,17 +37,25 @@ pub fn read(alloc: Global, words: &[String]) -> Result<Command, WordsFault>
 fn is_built(command: &Command) -> bool
     ensures { result ≡ table.is_built (asked_of command.now) }
 {
+    is_verb_built(verb_of(command))
+}
+
+/// The command without its values.
+fn verb_of(command: &Command) -> Verb
+    ensures { result ≡ table.verb_of (asked_of command.now) }
+{
     match command {
-        Command::Cells { .. } => is_verb_built(Verb::Cells),
-        Command::Check { .. } => is_verb_built(Verb::Check),
-        Command::Betti { .. } => is_verb_built(Verb::Betti),
-        Command::Cup { .. } => is_verb_built(Verb::Cup),
-        Command::Verify { .. } => is_verb_built(Verb::Verify),
-        Command::Group { .. } => is_verb_built(Verb::Group),
-        Command::Covers { .. } => is_verb_built(Verb::Covers),
-        Command::Cover { .. } => is_verb_built(Verb::Cover),
-        Command::Report { .. } => is_verb_built(Verb::Report),
-        Command::Make { .. } => is_verb_built(Verb::Make),
+        Command::Cells(_) => Verb::Cells,
+        Command::Check(_) => Verb::Check,
+        Command::Betti(_) => Verb::Betti,
+        Command::Cup(_) => Verb::Cup,
+        Command::Verify(_) => Verb::Verify,
+        Command::Migrate(_) => Verb::Migrate,
+        Command::Group(_) => Verb::Group,
+        Command::Covers(_) => Verb::Covers,
+        Command::Cover(_) => Verb::Cover,
+        Command::Report(_) => Verb::Report,
+        Command::Make(_) => Verb::Make,
     }
 }
 
@@ -96,6 +107,7 @@ fn fits(matches: &ArgMatches<'_>, verb: Verb) -> bool
         && fits_at(matches, verb, Name::From)
         && fits_at(matches, verb, Name::Index)
         && fits_at(matches, verb, Name::Size)
+        && fits_at(matches, verb, Name::Component)
 }
 
 fn fits_at(matches: &ArgMatches<'_>, verb: Verb, name: Name) -> bool
@@ -109,37 +121,49 @@ fn command(alloc: Global, matches: &ArgMatches<'_>, verb: Verb) -> Result<Comman
     ensures { Reads asked_of (table.asked_by verb (rows_of (found_of matches.now))) result }
 {
     match verb {
-        Verb::Cells => Ok(Command::Cells {
-            input: input(alloc, matches)?,
-        }),
-        Verb::Check => Ok(Command::Check {
-            input: input(alloc, matches)?,
-        }),
-        Verb::Betti => Ok(Command::Betti {
-            input: input(alloc, matches)?,
-            modulus: modulus(matches).ok_or(WordsFault::Usage)?,
-        }),
-        Verb::Cup => Ok(Command::Cup {
-            input: input(alloc, matches)?,
-            modulus: modulus(matches).ok_or(WordsFault::Usage)?,
-        }),
-        Verb::Verify => Ok(Command::Verify {
-            name: owned(alloc, text_under(matches, Name::In))?,
-        }),
-        Verb::Group => Ok(Command::Group {
-            input: input(alloc, matches)?,
-        }),
-        Verb::Covers => covers(alloc, matches),
-        Verb::Cover => cover(alloc, matches),
-        Verb::Report => report(alloc, matches),
-        Verb::Make => make(matches),
+        Verb::Cells => Ok(Command::Cells(input_options(alloc, matches)?)),
+        Verb::Check => Ok(Command::Check(input_options(alloc, matches)?)),
+        Verb::Betti => Ok(Command::Betti(field_options(alloc, matches)?)),
+        Verb::Cup => Ok(Command::Cup(field_options(alloc, matches)?)),
+        Verb::Verify => Ok(Command::Verify(name_options(alloc, matches)?)),
+        Verb::Migrate => Ok(Command::Migrate(name_options(alloc, matches)?)),
+        Verb::Group => Ok(Command::Group(input_options(alloc, matches)?)),
+        Verb::Covers => Ok(Command::Covers(covers_options(alloc, matches)?)),
+        Verb::Cover => Ok(Command::Cover(cover_options(alloc, matches)?)),
+        Verb::Report => Ok(Command::Report(report_options(alloc, matches)?)),
+        Verb::Make => Ok(Command::Make(make_options(matches)?)),
     }
 }
 
-fn covers(alloc: Global, matches: &ArgMatches<'_>) -> Result<Command, WordsFault>
-    ensures { Reads asked_of (table.asked_by Verb.Covers (rows_of (found_of matches.now))) result }
+fn input_options(alloc: Global, matches: &ArgMatches<'_>) -> Result<InputOptions, WordsFault>
+    ensures { Reads input_of (table.input_asked (rows_of (found_of matches.now))) result }
 {
-    Ok(Command::Covers {
+    Ok(InputOptions {
+        input: input(alloc, matches)?,
+    })
+}
+
+fn field_options(alloc: Global, matches: &ArgMatches<'_>) -> Result<FieldOptions, WordsFault>
+    ensures { Reads field_of (table.field_asked (rows_of (found_of matches.now))) result }
+{
+    Ok(FieldOptions {
+        input: input(alloc, matches)?,
+        modulus: modulus(matches).ok_or(WordsFault::Usage)?,
+    })
+}
+
+fn name_options(alloc: Global, matches: &ArgMatches<'_>) -> Result<NameOptions, WordsFault>
+    ensures { Reads name_of (table.name_asked (rows_of (found_of matches.now))) result }
+{
+    Ok(NameOptions {
+        name: owned(alloc, text_under(matches, Name::In))?,
+    })
+}
+
+fn covers_options(alloc: Global, matches: &ArgMatches<'_>) -> Result<CoversOptions, WordsFault>
+    ensures { Reads covers_of (table.covers_asked (rows_of (found_of matches.now))) result }
+{
+    Ok(CoversOptions {
         input: input(alloc, matches)?,
         sheets: sheets(matches).ok_or(WordsFault::Usage)?,
         budget: budget(matches).ok_or(WordsFault::Usage)?,
@@ -147,22 +171,23 @@ fn covers(alloc: Global, matches: &ArgMatches<'_>) -> Result<Command, WordsFault
     })
 }
 
-fn cover(alloc: Global, matches: &ArgMatches<'_>) -> Result<Command, WordsFault>
-    ensures { Reads asked_of (table.asked_by Verb.Cover (rows_of (found_of matches.now))) result }
+fn cover_options(alloc: Global, matches: &ArgMatches<'_>) -> Result<CoverOptions, WordsFault>
+    ensures { Reads cover_of (table.cover_asked (rows_of (found_of matches.now))) result }
 {
-    Ok(Command::Cover {
+    Ok(CoverOptions {
         input: input(alloc, matches)?,
         sheets: sheets(matches).ok_or(WordsFault::Usage)?,
         index: index(matches).ok_or(WordsFault::Usage)?,
+        component: component(matches).ok_or(WordsFault::Usage)?,
         budget: budget(matches).ok_or(WordsFault::Usage)?,
         modulus: modulus_if(matches).ok_or(WordsFault::Usage)?,
     })
 }
 
-fn report(alloc: Global, matches: &ArgMatches<'_>) -> Result<Command, WordsFault>
-    ensures { Reads asked_of (table.asked_by Verb.Report (rows_of (found_of matches.now))) result }
+fn report_options(alloc: Global, matches: &ArgMatches<'_>) -> Result<ReportOptions, WordsFault>
+    ensures { Reads report_of (table.report_asked (rows_of (found_of matches.now))) result }
 {
-    Ok(Command::Report {
+    Ok(ReportOptions {
         input: input(alloc, matches)?,
         modulus: modulus(matches).ok_or(WordsFault::Usage)?,
         sheets: sheets(matches).ok_or(WordsFault::Usage)?,
@@ -171,10 +196,10 @@ fn report(alloc: Global, matches: &ArgMatches<'_>) -> Result<Command, WordsFault
     })
 }
 
-fn make(matches: &ArgMatches<'_>) -> Result<Command, WordsFault>
-    ensures { Reads asked_of (table.asked_by Verb.Make (rows_of (found_of matches.now))) result }
+fn make_options(matches: &ArgMatches<'_>) -> Result<MakeOptions, WordsFault>
+    ensures { Reads make_of (table.make_asked (rows_of (found_of matches.now))) result }
 {
-    Ok(Command::Make {
+    Ok(MakeOptions {
         size: size(matches).ok_or(WordsFault::Usage)?,
         modulus: modulus_if(matches).ok_or(WordsFault::Usage)?,
     })
@@ -236,7 +261,7 @@ fn modulus_if(matches: &ArgMatches<'_>) -> Option<Option<u8>>
 fn given_modulus(text: &str) -> Option<u8>
     ensures { result ≡ table.modulus_of text.now }
 {
-    match read_number_between(text, 2, 7) {
+    match read_number(text) {
         Some(2) => Some(2),
         Some(3) => Some(3),
         Some(5) => Some(5),
@@ -248,7 +273,7 @@ fn given_modulus(text: &str) -> Option<u8>
 fn sheets(matches: &ArgMatches<'_>) -> Option<u8>
     ensures { result ≡ table.sheets (rows_of (found_of matches.now)) }
 {
-    number(matches, Name::Sheets, 1, 5).map(|sheets| sheets as u8)
+    number(matches, Name::Sheets, 1, 8).map(|sheets| sheets as u8)
 }
 
 /// The number of steps that a search may take, 10,000,000 where none is given.
@@ -262,13 +287,13 @@ fn budget(matches: &ArgMatches<'_>) -> Option<u64>
 }
 
 /// Where the listing begins: the start, where none is given.
-fn from(alloc: Global, matches: &ArgMatches<'_>) -> Result<Position, WordsFault>
-    ensures { Reads place_of (table.from (rows_of (found_of matches.now))) result }
+fn from(alloc: Global, matches: &ArgMatches<'_>) -> Result<Spot, WordsFault>
+    ensures { Reads spot_of (table.from (rows_of (found_of matches.now))) result }
 {
     match text_under(matches, Name::From) {
-        None => Ok(Position::start(alloc)),
-        Some(text) => match Position::parse(alloc, text) {
-            Ok(position) => Ok(position),
+        None => Ok(Spot::start(alloc)),
+        Some(text) => match Spot::parse(alloc, text) {
+            Ok(spot) => Ok(spot),
             Err(PositionFault::Form) => Err(WordsFault::Usage),
             Err(PositionFault::Memory) => Err(WordsFault::Memory),
         },
@@ -280,6 +305,16 @@ fn index(matches: &ArgMatches<'_>) -> Option<u32>
     ensures { result ≡ table.index (rows_of (found_of matches.now)) }
 {
     number(matches, Name::Index, 1, 1_000_000_000).map(|index| index as u32)
+}
+
+/// The component of the space, from 1: the first, where none is given.
+fn component(matches: &ArgMatches<'_>) -> Option<u32>
+    ensures { result ≡ table.component (rows_of (found_of matches.now)) }
+{
+    match text_under(matches, Name::Component) {
+        None => Some(1),
+        Some(text) => read_number_between(text, 1, 60_000).map(|component| component as u32),
+    }
 }
 
 fn size(matches: &ArgMatches<'_>) -> Option<u32>

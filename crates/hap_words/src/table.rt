@@ -14,6 +14,7 @@ pub enum Verb {
     Betti,
     Cup,
     Verify,
+    Migrate,
     Group,
     Covers,
     Cover,
@@ -32,6 +33,7 @@ pub enum Name {
     From,
     Index,
     Size,
+    Component,
 }
 
 pub fn verb_of_word(word: &str) -> Option<Verb>
@@ -44,6 +46,7 @@ pub fn verb_of_word(word: &str) -> Option<Verb>
             ("betti", Verb::Betti),
             ("cup", Verb::Cup),
             ("verify", Verb::Verify),
+            ("migrate", Verb::Migrate),
             ("group", Verb::Group),
             ("covers", Verb::Covers),
             ("cover", Verb::Cover),
@@ -81,6 +84,7 @@ pub fn option_word(name: Name) -> &'static str
         Name::From => "from",
         Name::Index => "index",
         Name::Size => "size",
+        Name::Component => "component",
     }
 }
 
@@ -91,14 +95,20 @@ pub fn is_taken(verb: Verb, name: Name) -> bool
     match verb {
         Verb::Cells | Verb::Check | Verb::Group => matches!(name, Name::Kind | Name::In),
         Verb::Betti | Verb::Cup => matches!(name, Name::Kind | Name::In | Name::Mod),
-        Verb::Verify => matches!(name, Name::In),
+        Verb::Verify | Verb::Migrate => matches!(name, Name::In),
         Verb::Covers => matches!(
             name,
             Name::Kind | Name::In | Name::Sheets | Name::Budget | Name::From
         ),
         Verb::Cover => matches!(
             name,
-            Name::Kind | Name::In | Name::Sheets | Name::Index | Name::Budget | Name::Mod
+            Name::Kind
+                | Name::In
+                | Name::Sheets
+                | Name::Index
+                | Name::Budget
+                | Name::Component
+                | Name::Mod
         ),
         Verb::Report => matches!(
             name,

@@ -32,7 +32,7 @@ pub fn read_number_between(text: &str, least: u64, most: u64) -> Option<u64>
 }
 
 /// The number that the text, of 1 to 18 digits, stands for.
-fn read_number(text: &str) -> Option<u64>
+pub fn read_number(text: &str) -> Option<u64>
     ensures { result ≡ number_of text.now }
 {
     let digits = text.as_bytes();

@@ -18,4 +18,5 @@ returns c =
     let budget = more _ _ _ (codes "budget") c.in_ok-budget.ensures sheets in
     let from = more _ _ _ (codes "from") c.in_ok-from.ensures budget in
     let index = more _ _ _ (codes "index") c.in_ok-index.ensures from in
-    IfOk-weaker c.with_option-8.result _ _ (λ r h. more _ _ _ (codes "size") h index) c.with_option-8.ensures
+    let size = more _ _ _ (codes "size") c.in_ok-size.ensures index in
+    IfOk-weaker c.with_option-9.result _ _ (λ r h. more _ _ _ (codes "component") h size) c.with_option-9.ensures
