@@ -19,6 +19,7 @@ use Rattle.hap_words.specs.Ranges.{lies_between, is_modulus_if, is_sheets, is_bu
 use Rattle.small_field.specs.Modulus.{is_modulus}
 use Rattle.hap_words.specs.Texts.{number_between, if_between, number_of}
 use Rattle.hap_words.specs.Table as table
+use Rattle.hap_words.specs.Table.{Given}
 
 -- a chain of two options has a value only where both have
 with_some : {A B : Type 0} (o : Option A) (go : A → Option B) (b : B) → table.with o go ≡ Some b → (a : A) × (o ≡ Some a) × (go a ≡ Some b)
@@ -115,62 +116,62 @@ spot_is (Some text) s e =
 has : (a b : Asked) → a ≡ b → is_in_range a ≡ true → is_in_range b ≡ true
 has a b e h = subst (λ x. is_in_range x ≡ true) e h
 
-field_is : (rows : List Row) (a : FieldAsked) → table.field_asked rows ≡ Some a → is_modulus a.modulus ≡ true
-field_is rows a e =
-    let s = with_some (table.source rows) _ a e in let p = with_some (table.modulus rows) _ a s.2 in
-    subst (λ x. is_modulus x.modulus ≡ true) (some_same _ a p.2) (modulus_is (table.text_under rows name.Mod) p.0 p.1)
+field_is : (given : Given) (a : FieldAsked) → table.field_asked given ≡ Some a → is_modulus a.modulus ≡ true
+field_is given a e =
+    let s = with_some (table.source given) _ a e in let p = with_some (table.modulus given) _ a s.2 in
+    subst (λ x. is_modulus x.modulus ≡ true) (some_same _ a p.2) (modulus_is (given name.Mod) p.0 p.1)
 
-covers_is : (rows : List Row) (a : CoversAsked) → table.covers_asked rows ≡ Some a → is_in_range (covers a) ≡ true
-covers_is rows a e =
-    let s = with_some (table.source rows) _ a e in let n = with_some (table.sheets rows) _ a s.2 in let b = with_some (table.budget rows) _ a n.2 in
-    let t = with_some (table.from rows) _ a b.2 in
+covers_is : (given : Given) (a : CoversAsked) → table.covers_asked given ≡ Some a → is_in_range (covers a) ≡ true
+covers_is given a e =
+    let s = with_some (table.source given) _ a e in let n = with_some (table.sheets given) _ a s.2 in let b = with_some (table.budget given) _ a n.2 in
+    let t = with_some (table.from given) _ a b.2 in
     subst (λ x. is_in_range (covers x) ≡ true) (some_same _ a t.2)
-    (both (is_sheets n.0) (is_budget b.0 && is_spot t.0) (number_is 1 8 (table.text_under rows name.Sheets) n.0 n.1)
-    (both (is_budget b.0) (is_spot t.0) (default_is 1 1000000000000000 10000000 refl (table.text_under rows name.Budget) b.0 b.1)
-    (spot_is (table.text_under rows name.From) t.0 t.1)))
+    (both (is_sheets n.0) (is_budget b.0 && is_spot t.0) (number_is 1 8 (given name.Sheets) n.0 n.1)
+    (both (is_budget b.0) (is_spot t.0) (default_is 1 1000000000000000 10000000 refl (given name.Budget) b.0 b.1)
+    (spot_is (given name.From) t.0 t.1)))
 
-cover_is : (rows : List Row) (a : CoverAsked) → table.cover_asked rows ≡ Some a → is_in_range (cover a) ≡ true
-cover_is rows a e =
-    let s = with_some (table.source rows) _ a e in let n = with_some (table.sheets rows) _ a s.2 in let i = with_some (table.index rows) _ a n.2 in
-    let c = with_some (table.component rows) _ a i.2 in let b = with_some (table.budget rows) _ a c.2 in let p = with_some (table.modulus_if rows) _ a b.2 in
+cover_is : (given : Given) (a : CoverAsked) → table.cover_asked given ≡ Some a → is_in_range (cover a) ≡ true
+cover_is given a e =
+    let s = with_some (table.source given) _ a e in let n = with_some (table.sheets given) _ a s.2 in let i = with_some (table.index given) _ a n.2 in
+    let c = with_some (table.component given) _ a i.2 in let b = with_some (table.budget given) _ a c.2 in let p = with_some (table.modulus_if given) _ a b.2 in
     subst (λ x. is_in_range (cover x) ≡ true) (some_same _ a p.2)
-    (both (is_sheets n.0) (is_index i.0 && (is_component c.0 && (is_budget b.0 && is_modulus_if p.0))) (number_is 1 8 (table.text_under rows name.Sheets) n.0 n.1)
-    (both (is_index i.0) (is_component c.0 && (is_budget b.0 && is_modulus_if p.0)) (number_is 1 1000000000 (table.text_under rows name.Index) i.0 i.1)
-    (both (is_component c.0) (is_budget b.0 && is_modulus_if p.0) (default_is 1 60000 1 refl (table.text_under rows name.Component) c.0 c.1)
-    (both (is_budget b.0) (is_modulus_if p.0) (default_is 1 1000000000000000 10000000 refl (table.text_under rows name.Budget) b.0 b.1)
-    (modulus_if_is (table.text_under rows name.Mod) p.0 p.1)))))
+    (both (is_sheets n.0) (is_index i.0 && (is_component c.0 && (is_budget b.0 && is_modulus_if p.0))) (number_is 1 8 (given name.Sheets) n.0 n.1)
+    (both (is_index i.0) (is_component c.0 && (is_budget b.0 && is_modulus_if p.0)) (number_is 1 1000000000 (given name.Index) i.0 i.1)
+    (both (is_component c.0) (is_budget b.0 && is_modulus_if p.0) (default_is 1 60000 1 refl (given name.Component) c.0 c.1)
+    (both (is_budget b.0) (is_modulus_if p.0) (default_is 1 1000000000000000 10000000 refl (given name.Budget) b.0 b.1)
+    (modulus_if_is (given name.Mod) p.0 p.1)))))
 
-report_is : (rows : List Row) (a : ReportAsked) → table.report_asked rows ≡ Some a → is_in_range (report a) ≡ true
-report_is rows a e =
-    let s = with_some (table.source rows) _ a e in let p = with_some (table.modulus rows) _ a s.2 in let n = with_some (table.sheets rows) _ a p.2 in
-    let b = with_some (table.budget rows) _ a n.2 in let t = with_some (table.from rows) _ a b.2 in
+report_is : (given : Given) (a : ReportAsked) → table.report_asked given ≡ Some a → is_in_range (report a) ≡ true
+report_is given a e =
+    let s = with_some (table.source given) _ a e in let p = with_some (table.modulus given) _ a s.2 in let n = with_some (table.sheets given) _ a p.2 in
+    let b = with_some (table.budget given) _ a n.2 in let t = with_some (table.from given) _ a b.2 in
     subst (λ x. is_in_range (report x) ≡ true) (some_same _ a t.2)
-    (both (is_modulus p.0) (is_sheets n.0 && (is_budget b.0 && is_spot t.0)) (modulus_is (table.text_under rows name.Mod) p.0 p.1)
-    (both (is_sheets n.0) (is_budget b.0 && is_spot t.0) (number_is 1 8 (table.text_under rows name.Sheets) n.0 n.1)
-    (both (is_budget b.0) (is_spot t.0) (default_is 1 1000000000000000 10000000 refl (table.text_under rows name.Budget) b.0 b.1)
-    (spot_is (table.text_under rows name.From) t.0 t.1))))
+    (both (is_modulus p.0) (is_sheets n.0 && (is_budget b.0 && is_spot t.0)) (modulus_is (given name.Mod) p.0 p.1)
+    (both (is_sheets n.0) (is_budget b.0 && is_spot t.0) (number_is 1 8 (given name.Sheets) n.0 n.1)
+    (both (is_budget b.0) (is_spot t.0) (default_is 1 1000000000000000 10000000 refl (given name.Budget) b.0 b.1)
+    (spot_is (given name.From) t.0 t.1))))
 
-make_is : (rows : List Row) (a : MakeAsked) → table.make_asked rows ≡ Some a → is_in_range (make a) ≡ true
-make_is rows a e =
-    let n = with_some (table.size rows) _ a e in let p = with_some (table.modulus_if rows) _ a n.2 in
+make_is : (given : Given) (a : MakeAsked) → table.make_asked given ≡ Some a → is_in_range (make a) ≡ true
+make_is given a e =
+    let n = with_some (table.size given) _ a e in let p = with_some (table.modulus_if given) _ a n.2 in
     subst (λ x. is_in_range (make x) ≡ true) (some_same _ a p.2)
-    (both (is_size n.0) (is_modulus_if p.0) (number_is 2 19 (table.text_under rows name.Size) n.0 n.1) (modulus_if_is (table.text_under rows name.Mod) p.0 p.1))
+    (both (is_size n.0) (is_modulus_if p.0) (number_is 2 19 (given name.Size) n.0 n.1) (modulus_if_is (given name.Mod) p.0 p.1))
 
-asked_by_is : (v : Verb) (rows : List Row) (a : Asked) → table.asked_by v rows ≡ Some a → is_in_range a ≡ true
-asked_by_is verb.Cells rows a e = let k = map_some cells (table.input_asked rows) a e in has (cells k.0) a k.2 refl
-asked_by_is verb.Check rows a e = let k = map_some check (table.input_asked rows) a e in has (check k.0) a k.2 refl
-asked_by_is verb.Betti rows a e = let k = map_some betti (table.field_asked rows) a e in has (betti k.0) a k.2 (field_is rows k.0 k.1)
-asked_by_is verb.Cup rows a e = let k = map_some cup (table.field_asked rows) a e in has (cup k.0) a k.2 (field_is rows k.0 k.1)
-asked_by_is verb.Verify rows a e = let k = map_some verify (table.name_asked rows) a e in has (verify k.0) a k.2 refl
-asked_by_is verb.Migrate rows a e = let k = map_some migrate (table.name_asked rows) a e in has (migrate k.0) a k.2 refl
-asked_by_is verb.Group rows a e = let k = map_some group (table.input_asked rows) a e in has (group k.0) a k.2 refl
-asked_by_is verb.Covers rows a e = let k = map_some covers (table.covers_asked rows) a e in has (covers k.0) a k.2 (covers_is rows k.0 k.1)
-asked_by_is verb.Cover rows a e = let k = map_some cover (table.cover_asked rows) a e in has (cover k.0) a k.2 (cover_is rows k.0 k.1)
-asked_by_is verb.Report rows a e = let k = map_some report (table.report_asked rows) a e in has (report k.0) a k.2 (report_is rows k.0 k.1)
-asked_by_is verb.Make rows a e = let k = map_some make (table.make_asked rows) a e in has (make k.0) a k.2 (make_is rows k.0 k.1)
+asked_by_is : (v : Verb) (given : Given) (a : Asked) → table.asked_by v given ≡ Some a → is_in_range a ≡ true
+asked_by_is verb.Cells given a e = let k = map_some cells (table.input_asked given) a e in has (cells k.0) a k.2 refl
+asked_by_is verb.Check given a e = let k = map_some check (table.input_asked given) a e in has (check k.0) a k.2 refl
+asked_by_is verb.Betti given a e = let k = map_some betti (table.field_asked given) a e in has (betti k.0) a k.2 (field_is given k.0 k.1)
+asked_by_is verb.Cup given a e = let k = map_some cup (table.field_asked given) a e in has (cup k.0) a k.2 (field_is given k.0 k.1)
+asked_by_is verb.Verify given a e = let k = map_some verify (table.name_asked given) a e in has (verify k.0) a k.2 refl
+asked_by_is verb.Migrate given a e = let k = map_some migrate (table.name_asked given) a e in has (migrate k.0) a k.2 refl
+asked_by_is verb.Group given a e = let k = map_some group (table.input_asked given) a e in has (group k.0) a k.2 refl
+asked_by_is verb.Covers given a e = let k = map_some covers (table.covers_asked given) a e in has (covers k.0) a k.2 (covers_is given k.0 k.1)
+asked_by_is verb.Cover given a e = let k = map_some cover (table.cover_asked given) a e in has (cover k.0) a k.2 (cover_is given k.0 k.1)
+asked_by_is verb.Report given a e = let k = map_some report (table.report_asked given) a e in has (report k.0) a k.2 (report_is given k.0 k.1)
+asked_by_is verb.Make given a e = let k = map_some make (table.make_asked given) a e in has (make k.0) a k.2 (make_is given k.0 k.1)
 
 asked_given_is : (rows : List Row) (a : Asked) → table.asked_given rows ≡ Some a → is_in_range a ≡ true
-asked_given_is rows a e = let v = with_some (table.verb_given rows) _ a e in asked_by_is v.0 rows a (if_some (table.fits v.0 rows) (table.asked_by v.0 rows) a v.2)
+asked_given_is rows a e = let v = with_some (table.verb_given rows) _ a e in asked_by_is v.0 (table.text_under rows) a (if_some (table.fits v.0 (table.text_under rows)) (table.asked_by v.0 (table.text_under rows)) a v.2)
 
 faultless_is : (faults : List ErrorKind) (o : Option Asked) (a : Asked) → ((b : Asked) → o ≡ Some b → is_in_range b ≡ true) → table.unless_faulty faults o ≡ Some a → is_in_range a ≡ true
 faultless_is [] o a f e = f a e

@@ -1,16 +1,18 @@
--- The table of commands: their words, the options that each takes, the values and the defaults. rows are what `clap`
--- found: the names of the options that were given, with their texts.
+-- The table of commands: their words, the options that each takes, the values and the defaults. given tells the text that
+-- was given under an option, None where there is none.
 --   verbs, kinds              the words of the commands and of the kinds of input
 --   names_of verb             the options that a command takes
 --   takes verb name           one of them
+--   Given                     the text under each option
 --   word_of name              the word of an option, behind two hyphens
---   text_under rows name      the text that was given under an option
---   fits verb rows            only options that the command takes are given
+--   fits verb given           only options that the command takes are given
 --   value_or, value_if, value_of   an option with a default, one that may be left out, one that must be given
 --   modulus, modulus_if, sheets, budget, index, component, size, from, kind, source   the value of each option
 --   input_asked, field_asked, name_asked, covers_asked, cover_asked, report_asked, make_asked   the values of the
 --                             options of a command, where each has one
---   asked_by verb rows        the command with its values, where each has one
+--   asked_by verb given       the command with its values, where each has one
+--   text_under rows           what is given by the rows that `clap` found: names of options with their texts
+--   found_under matches       the same of its matches
 --   verb_given rows           the command that is named
 --   asked words               what the words ask for, where `clap` takes them and the table has it
 --   verb_of asked             the command without its values
@@ -22,7 +24,8 @@ use Rattle.std.specs.declared.option.Option.{Option}
 use Rattle.std.specs.declared.option.Option.TheVariants.{Some, None}
 use Rattle.std.specs.List.{list_all, list_any}
 use Rattle.clap.specs.declared.error.kind.ErrorKind.{ErrorKind}
-use Rattle.clap.specs.Words.{Row, Text, fault_of, first_of, matches_of}
+use Rattle.clap.specs.Words.{Row, Text, fault_of, first_of, found_of, matches_of, rows_of}
+use Rattle.clap.specs.declared.parser.matches.ArgMatches.{ArgMatches}
 use Rattle.sheet_tables.specs.Spots.{spot_from}
 use Rattle.hap_words.specs.declared.command.Kind.{Kind}
 use Rattle.hap_words.specs.declared.command.Kind.TheVariants.{Boundary, Cubical, Permutahedral, Arcs}
@@ -71,6 +74,9 @@ number_of_name name.Index = 6
 number_of_name name.Size = 7
 number_of_name name.Component = 8
 
+abbrev pub Given : Type 0
+Given = Name → Option Text
+
 abbrev pub takes : Verb → Name → Bool
 takes v n = list_any (λ m. number_of_name m == number_of_name n) (names_of v)
 
@@ -88,14 +94,11 @@ word_of name.Index = codes "index"
 word_of name.Size = codes "size"
 word_of name.Component = codes "component"
 
-abbrev pub text_under : List Row → Name → Option Text
-text_under rows n = first_of (word_of n) rows
+abbrev pub fits_at : Verb → Given → Name → Bool
+fits_at v given n = is_none (given n) || takes v n
 
-abbrev pub fits_at : Verb → List Row → Name → Bool
-fits_at v rows n = is_none (text_under rows n) || takes v n
-
-abbrev pub fits : Verb → List Row → Bool
-fits v rows = list_all (fits_at v rows) names
+abbrev pub fits : Verb → Given → Bool
+fits v given = list_all (fits_at v given) names
 
 -- ---- the values
 
@@ -118,38 +121,38 @@ if_modulus (Some n) = if is_modulus n then Some n else None
 abbrev pub modulus_of : Text → Option ℕ
 modulus_of text = if_modulus (number_of text)
 
-abbrev pub modulus : List Row → Option ℕ
-modulus rows = value_or 2 modulus_of (text_under rows name.Mod)
+abbrev pub modulus : Given → Option ℕ
+modulus given = value_or 2 modulus_of (given name.Mod)
 
-abbrev pub modulus_if : List Row → Option (Option ℕ)
-modulus_if rows = value_if modulus_of (text_under rows name.Mod)
+abbrev pub modulus_if : Given → Option (Option ℕ)
+modulus_if given = value_if modulus_of (given name.Mod)
 
-abbrev pub number_under : List Row → Name → (least most : ℕ) → Option ℕ
-number_under rows n least most = value_of (number_between least most) (text_under rows n)
+abbrev pub number_under : Given → Name → (least most : ℕ) → Option ℕ
+number_under given n least most = value_of (number_between least most) (given n)
 
-abbrev pub sheets : List Row → Option ℕ
-sheets rows = number_under rows name.Sheets 1 8
+abbrev pub sheets : Given → Option ℕ
+sheets given = number_under given name.Sheets 1 8
 
-abbrev pub budget : List Row → Option ℕ
-budget rows = value_or 10000000 (number_between 1 1000000000000000) (text_under rows name.Budget)
+abbrev pub budget : Given → Option ℕ
+budget given = value_or 10000000 (number_between 1 1000000000000000) (given name.Budget)
 
-abbrev pub index : List Row → Option ℕ
-index rows = number_under rows name.Index 1 1000000000
+abbrev pub index : Given → Option ℕ
+index given = number_under given name.Index 1 1000000000
 
-abbrev pub component : List Row → Option ℕ
-component rows = value_or 1 (number_between 1 60000) (text_under rows name.Component)
+abbrev pub component : Given → Option ℕ
+component given = value_or 1 (number_between 1 60000) (given name.Component)
 
-abbrev pub size : List Row → Option ℕ
-size rows = number_under rows name.Size 2 19
+abbrev pub size : Given → Option ℕ
+size given = number_under given name.Size 2 19
 
-abbrev pub from : List Row → Option SearchSpot
-from rows = value_or (1, 0, []) spot_from (text_under rows name.From)
+abbrev pub from : Given → Option SearchSpot
+from given = value_or (1, 0, []) spot_from (given name.From)
 
-abbrev pub kind : List Row → Option Kind
-kind rows = value_or Boundary (named kinds) (text_under rows name.Kind)
+abbrev pub kind : Given → Option Kind
+kind given = value_or Boundary (named kinds) (given name.Kind)
 
-abbrev pub source : List Row → Option Source
-source rows = option_map (λ k. record { kind = k; name = text_under rows name.In }) (kind rows)
+abbrev pub source : Given → Option Source
+source given = option_map (λ k. record { kind = k; name = given name.In }) (kind given)
 
 -- ---- the command with its values, where each has one
 
@@ -157,51 +160,59 @@ abbrev pub with : {A B : Type 0} → Option A → (A → Option B) → Option B
 with None go = None
 with (Some a) go = go a
 
-abbrev pub input_asked : List Row → Option InputAsked
-input_asked rows = with (source rows) (λ s. Some (record { source = s }))
+abbrev pub input_asked : Given → Option InputAsked
+input_asked given = with (source given) (λ s. Some (record { source = s }))
 
-abbrev pub field_asked : List Row → Option FieldAsked
-field_asked rows = with (source rows) (λ s. with (modulus rows) (λ p. Some (record { source = s; modulus = p })))
+abbrev pub field_asked : Given → Option FieldAsked
+field_asked given = with (source given) (λ s. with (modulus given) (λ p. Some (record { source = s; modulus = p })))
 
-abbrev pub name_asked : List Row → Option NameAsked
-name_asked rows = Some (record { name = text_under rows name.In })
+abbrev pub name_asked : Given → Option NameAsked
+name_asked given = Some (record { name = given name.In })
 
-abbrev pub covers_asked : List Row → Option CoversAsked
-covers_asked rows =
-    with (source rows) (λ s. with (sheets rows) (λ n. with (budget rows) (λ b. with (from rows) (λ t.
+abbrev pub covers_asked : Given → Option CoversAsked
+covers_asked given =
+    with (source given) (λ s. with (sheets given) (λ n. with (budget given) (λ b. with (from given) (λ t.
     Some (record { source = s; sheets = n; budget = b; from = t })))))
 
-abbrev pub cover_asked : List Row → Option CoverAsked
-cover_asked rows =
-    with (source rows) (λ s. with (sheets rows) (λ n. with (index rows) (λ i. with (component rows) (λ c. with (budget rows) (λ b. with (modulus_if rows) (λ p.
+abbrev pub cover_asked : Given → Option CoverAsked
+cover_asked given =
+    with (source given) (λ s. with (sheets given) (λ n. with (index given) (λ i. with (component given) (λ c. with (budget given) (λ b. with (modulus_if given) (λ p.
     Some (record { source = s; sheets = n; index = i; component = c; budget = b; modulus = p })))))))
 
-abbrev pub report_asked : List Row → Option ReportAsked
-report_asked rows =
-    with (source rows) (λ s. with (modulus rows) (λ p. with (sheets rows) (λ n. with (budget rows) (λ b. with (from rows) (λ t.
+abbrev pub report_asked : Given → Option ReportAsked
+report_asked given =
+    with (source given) (λ s. with (modulus given) (λ p. with (sheets given) (λ n. with (budget given) (λ b. with (from given) (λ t.
     Some (record { source = s; modulus = p; sheets = n; budget = b; from = t }))))))
 
-abbrev pub make_asked : List Row → Option MakeAsked
-make_asked rows = with (size rows) (λ n. with (modulus_if rows) (λ p. Some (record { size = n; modulus = p })))
+abbrev pub make_asked : Given → Option MakeAsked
+make_asked given = with (size given) (λ n. with (modulus_if given) (λ p. Some (record { size = n; modulus = p })))
 
-abbrev pub asked_by : Verb → List Row → Option Asked
-asked_by verb.Cells rows = option_map cells (input_asked rows)
-asked_by verb.Check rows = option_map check (input_asked rows)
-asked_by verb.Betti rows = option_map betti (field_asked rows)
-asked_by verb.Cup rows = option_map cup (field_asked rows)
-asked_by verb.Verify rows = option_map verify (name_asked rows)
-asked_by verb.Migrate rows = option_map migrate (name_asked rows)
-asked_by verb.Group rows = option_map group (input_asked rows)
-asked_by verb.Covers rows = option_map covers (covers_asked rows)
-asked_by verb.Cover rows = option_map cover (cover_asked rows)
-asked_by verb.Report rows = option_map report (report_asked rows)
-asked_by verb.Make rows = option_map make (make_asked rows)
+abbrev pub asked_by : Verb → Given → Option Asked
+asked_by verb.Cells given = option_map cells (input_asked given)
+asked_by verb.Check given = option_map check (input_asked given)
+asked_by verb.Betti given = option_map betti (field_asked given)
+asked_by verb.Cup given = option_map cup (field_asked given)
+asked_by verb.Verify given = option_map verify (name_asked given)
+asked_by verb.Migrate given = option_map migrate (name_asked given)
+asked_by verb.Group given = option_map group (input_asked given)
+asked_by verb.Covers given = option_map covers (covers_asked given)
+asked_by verb.Cover given = option_map cover (cover_asked given)
+asked_by verb.Report given = option_map report (report_asked given)
+asked_by verb.Make given = option_map make (make_asked given)
+
+-- ---- what `clap` found
+
+abbrev pub text_under : List Row → Given
+text_under rows n = first_of (word_of n) rows
+
+abbrev pub found_under : ArgMatches → Given
+found_under matches = text_under (rows_of (found_of matches))
 
 abbrev pub verb_given : List Row → Option Verb
 verb_given rows = with (first_of (codes "command") rows) (named verbs)
 
 abbrev pub asked_given : List Row → Option Asked
-asked_given rows = with (verb_given rows) (λ v. if fits v rows then asked_by v rows else None)
+asked_given rows = with (verb_given rows) (λ v. if fits v (text_under rows) then asked_by v (text_under rows) else None)
 
 abbrev pub unless_faulty : List ErrorKind → Option Asked → Option Asked
 unless_faulty [] asked = asked

@@ -97,7 +97,7 @@ fn command_word<'a>(matches: &ArgMatches<'a>) -> Option<&'a str>
 
 /// Whether only options of the command's line are given.
 fn fits(matches: &ArgMatches<'_>, verb: Verb) -> bool
-    ensures { result ≡ table.fits verb (rows_of (found_of matches.now)) }
+    ensures { result ≡ table.fits verb (table.found_under matches.now) }
 {
     fits_at(matches, verb, Name::Kind)
         && fits_at(matches, verb, Name::In)
@@ -111,14 +111,14 @@ fn fits(matches: &ArgMatches<'_>, verb: Verb) -> bool
 }
 
 fn fits_at(matches: &ArgMatches<'_>, verb: Verb, name: Name) -> bool
-    ensures { result ≡ table.fits_at verb (rows_of (found_of matches.now)) name }
+    ensures { result ≡ table.fits_at verb (table.found_under matches.now) name }
 {
     text_under(matches, name).is_none() || is_taken(verb, name)
 }
 
 /// The command with the values of its options.
 fn command(alloc: Global, matches: &ArgMatches<'_>, verb: Verb) -> Result<Command, WordsFault>
-    ensures { Reads asked_of (table.asked_by verb (rows_of (found_of matches.now))) result }
+    ensures { Reads asked_of (table.asked_by verb (table.found_under matches.now)) result }
 {
     match verb {
         Verb::Cells => Ok(Command::Cells(input_options(alloc, matches)?)),
@@ -136,7 +136,7 @@ fn command(alloc: Global, matches: &ArgMatches<'_>, verb: Verb) -> Result<Comman
 }
 
 fn input_options(alloc: Global, matches: &ArgMatches<'_>) -> Result<InputOptions, WordsFault>
-    ensures { Reads input_of (table.input_asked (rows_of (found_of matches.now))) result }
+    ensures { Reads input_of (table.input_asked (table.found_under matches.now)) result }
 {
     Ok(InputOptions {
         input: input(alloc, matches)?,
@@ -144,7 +144,7 @@ fn input_options(alloc: Global, matches: &ArgMatches<'_>) -> Result<InputOptions
 }
 
 fn field_options(alloc: Global, matches: &ArgMatches<'_>) -> Result<FieldOptions, WordsFault>
-    ensures { Reads field_of (table.field_asked (rows_of (found_of matches.now))) result }
+    ensures { Reads field_of (table.field_asked (table.found_under matches.now)) result }
 {
     Ok(FieldOptions {
         input: input(alloc, matches)?,
@@ -153,7 +153,7 @@ fn field_options(alloc: Global, matches: &ArgMatches<'_>) -> Result<FieldOptions
 }
 
 fn name_options(alloc: Global, matches: &ArgMatches<'_>) -> Result<NameOptions, WordsFault>
-    ensures { Reads name_of (table.name_asked (rows_of (found_of matches.now))) result }
+    ensures { Reads name_of (table.name_asked (table.found_under matches.now)) result }
 {
     Ok(NameOptions {
         name: owned(alloc, text_under(matches, Name::In))?,
@@ -161,7 +161,7 @@ fn name_options(alloc: Global, matches: &ArgMatches<'_>) -> Result<NameOptions, 
 }
 
 fn covers_options(alloc: Global, matches: &ArgMatches<'_>) -> Result<CoversOptions, WordsFault>
-    ensures { Reads covers_of (table.covers_asked (rows_of (found_of matches.now))) result }
+    ensures { Reads covers_of (table.covers_asked (table.found_under matches.now)) result }
 {
     Ok(CoversOptions {
         input: input(alloc, matches)?,
@@ -172,7 +172,7 @@ fn covers_options(alloc: Global, matches: &ArgMatches<'_>) -> Result<CoversOptio
 }
 
 fn cover_options(alloc: Global, matches: &ArgMatches<'_>) -> Result<CoverOptions, WordsFault>
-    ensures { Reads cover_of (table.cover_asked (rows_of (found_of matches.now))) result }
+    ensures { Reads cover_of (table.cover_asked (table.found_under matches.now)) result }
 {
     Ok(CoverOptions {
         input: input(alloc, matches)?,
@@ -185,7 +185,7 @@ fn cover_options(alloc: Global, matches: &ArgMatches<'_>) -> Result<CoverOptions
 }
 
 fn report_options(alloc: Global, matches: &ArgMatches<'_>) -> Result<ReportOptions, WordsFault>
-    ensures { Reads report_of (table.report_asked (rows_of (found_of matches.now))) result }
+    ensures { Reads report_of (table.report_asked (table.found_under matches.now)) result }
 {
     Ok(ReportOptions {
         input: input(alloc, matches)?,
@@ -197,7 +197,7 @@ fn report_options(alloc: Global, matches: &ArgMatches<'_>) -> Result<ReportOptio
 }
 
 fn make_options(matches: &ArgMatches<'_>) -> Result<MakeOptions, WordsFault>
-    ensures { Reads make_of (table.make_asked (rows_of (found_of matches.now))) result }
+    ensures { Reads make_of (table.make_asked (table.found_under matches.now)) result }
 {
     Ok(MakeOptions {
         size: size(matches).ok_or(WordsFault::Usage)?,
@@ -207,7 +207,7 @@ fn make_options(matches: &ArgMatches<'_>) -> Result<MakeOptions, WordsFault>
 
 /// The kind of the input and its name.
 fn input(alloc: Global, matches: &ArgMatches<'_>) -> Result<Input, WordsFault>
-    ensures { Reads source_of (table.source (rows_of (found_of matches.now))) result }
+    ensures { Reads source_of (table.source (table.found_under matches.now)) result }
 {
     let kind = kind(matches).ok_or(WordsFault::Usage)?;
     let name = owned(alloc, text_under(matches, Name::In))?;
@@ -216,7 +216,7 @@ fn input(alloc: Global, matches: &ArgMatches<'_>) -> Result<Input, WordsFault>
 
 /// The kind of the input: boundary lists where none is given.
 fn kind(matches: &ArgMatches<'_>) -> Option<Kind>
-    ensures { result ≡ table.kind (rows_of (found_of matches.now)) }
+    ensures { result ≡ table.kind (table.found_under matches.now) }
 {
     match text_under(matches, Name::Kind) {
         None => Some(Kind::Boundary),
@@ -239,7 +239,7 @@ fn owned(alloc: Global, text: Option<&str>) -> Result<Option<String>, WordsFault
 
 /// The number of elements of the field, 2 where none is given.
 fn modulus(matches: &ArgMatches<'_>) -> Option<u8>
-    ensures { result ≡ table.modulus (rows_of (found_of matches.now)) }
+    ensures { result ≡ table.modulus (table.found_under matches.now) }
 {
     match text_under(matches, Name::Mod) {
         None => Some(2),
@@ -249,7 +249,7 @@ fn modulus(matches: &ArgMatches<'_>) -> Option<u8>
 
 /// The number of elements of the field, if one is given.
 fn modulus_if(matches: &ArgMatches<'_>) -> Option<Option<u8>>
-    ensures { result ≡ table.modulus_if (rows_of (found_of matches.now)) }
+    ensures { result ≡ table.modulus_if (table.found_under matches.now) }
 {
     match text_under(matches, Name::Mod) {
         None => Some(None),
@@ -271,14 +271,14 @@ fn given_modulus(text: &str) -> Option<u8>
 }
 
 fn sheets(matches: &ArgMatches<'_>) -> Option<u8>
-    ensures { result ≡ table.sheets (rows_of (found_of matches.now)) }
+    ensures { result ≡ table.sheets (table.found_under matches.now) }
 {
     number(matches, Name::Sheets, 1, 8).map(|sheets| sheets as u8)
 }
 
 /// The number of steps that a search may take, 10,000,000 where none is given.
 fn budget(matches: &ArgMatches<'_>) -> Option<u64>
-    ensures { result ≡ table.budget (rows_of (found_of matches.now)) }
+    ensures { result ≡ table.budget (table.found_under matches.now) }
 {
     match text_under(matches, Name::Budget) {
         None => Some(10_000_000),
@@ -288,7 +288,7 @@ fn budget(matches: &ArgMatches<'_>) -> Option<u64>
 
 /// Where the listing begins: the start, where none is given.
 fn from(alloc: Global, matches: &ArgMatches<'_>) -> Result<Spot, WordsFault>
-    ensures { Reads spot_of (table.from (rows_of (found_of matches.now))) result }
+    ensures { Reads spot_of (table.from (table.found_under matches.now)) result }
 {
     match text_under(matches, Name::From) {
         None => Ok(Spot::start(alloc)),
@@ -302,14 +302,14 @@ fn from(alloc: Global, matches: &ArgMatches<'_>) -> Result<Spot, WordsFault>
 
 /// The number of a cover in the listing, from 1.
 fn index(matches: &ArgMatches<'_>) -> Option<u32>
-    ensures { result ≡ table.index (rows_of (found_of matches.now)) }
+    ensures { result ≡ table.index (table.found_under matches.now) }
 {
     number(matches, Name::Index, 1, 1_000_000_000).map(|index| index as u32)
 }
 
 /// The component of the space, from 1: the first, where none is given.
 fn component(matches: &ArgMatches<'_>) -> Option<u32>
-    ensures { result ≡ table.component (rows_of (found_of matches.now)) }
+    ensures { result ≡ table.component (table.found_under matches.now) }
 {
     match text_under(matches, Name::Component) {
         None => Some(1),
@@ -318,21 +318,21 @@ fn component(matches: &ArgMatches<'_>) -> Option<u32>
 }
 
 fn size(matches: &ArgMatches<'_>) -> Option<u32>
-    ensures { result ≡ table.size (rows_of (found_of matches.now)) }
+    ensures { result ≡ table.size (table.found_under matches.now) }
 {
     number(matches, Name::Size, 2, 19).map(|size| size as u32)
 }
 
 /// The number that was given under the option, where it lies between the bounds.
 fn number(matches: &ArgMatches<'_>, name: Name, least: u64, most: u64) -> Option<u64>
-    ensures { result ≡ table.number_under (rows_of (found_of matches.now)) name least most }
+    ensures { result ≡ table.number_under (table.found_under matches.now) name least most }
 {
     read_number_between(text_under(matches, name)?, least, most)
 }
 
 /// The text that was given under the option.
 fn text_under<'a>(matches: &ArgMatches<'a>, name: Name) -> Option<&'a str>
-    ensures { option_map (λ s. s.now) result ≡ table.text_under (rows_of (found_of matches.now)) name }
+    ensures { option_map (λ s. s.now) result ≡ table.found_under matches.now name }
 {
     matches.get_str(option_word(name))
 }
