@@ -1,5 +1,5 @@
 -- The values that the table gives a command are in their ranges.
-use Rattle.std.proofs.Common.{◌≡◌, ◌≤◌, ◌∙◌, ap, ℕ, Bool, true, false, leb, List, [], ◌∷◌, length, All, None, Some, refl, subst, arith}
+use Rattle.std.proofs.Common.{◌≡◌, ◌≤◌, ℕ, Bool, true, false, leb, List, [], ◌∷◌, length, All, None, Some, refl, subst, arith}
 use Rattle.std.specs.Prelude.{if◌then◌else◌, option_map, ◌&&◌, ◌||◌}
 use Rattle.std.specs.List.{list_all}
 use Rattle.std.specs.declared.option.Option.{Option}
@@ -7,13 +7,12 @@ use Rattle.std.proofs.lemmas.Bool.{le-leb}
 use Rattle.std.proofs.lemmas.List.Elements.{All-tail}
 use Rattle.clap.specs.declared.error.kind.ErrorKind.{ErrorKind}
 use Rattle.clap.specs.Words.{Row, Text, fault_of, matches_of}
-use Rattle.sheet_tables.specs.Positions.{IsProper}
 use Rattle.sheet_tables.specs.Spots.{spot_from}
 use Rattle.sheet_tables.proofs.CallerLemmas.{spot-is}
 use Rattle.hap_words.specs.declared.table.Verb.{Verb}
 use Rattle.hap_words.specs.declared.table.Verb.TheVariants as verb
 use Rattle.hap_words.specs.declared.table.Name.TheVariants as name
-use Rattle.hap_words.specs.Asked.{Asked, SearchSpot, InputAsked, FieldAsked, NameAsked, CoversAsked, CoverAsked, ReportAsked, MakeAsked, cells, check, betti, cup, verify, migrate, group, covers, cover, report, make}
+use Rattle.hap_words.specs.Asked.{Asked, SearchSpot, FieldAsked, CoversAsked, CoverAsked, ReportAsked, MakeAsked, cells, check, betti, cup, verify, migrate, group, covers, cover, report, make}
 use Rattle.hap_words.specs.Line.{hap_app}
 use Rattle.hap_words.specs.Ranges.{lies_between, is_modulus_if, is_sheets, is_budget, is_index, is_component, is_size, is_start, has_cells, is_placed, is_spot, is_in_range}
 use Rattle.small_field.specs.Modulus.{is_modulus}
