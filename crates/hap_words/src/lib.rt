@@ -3,6 +3,7 @@
 
 mod command;
 mod fault;
+mod laws;
 mod line;
 mod reader;
 mod table;
@@ -13,4 +14,5 @@ pub use command::{
     NameOptions, ReportOptions,
 };
 pub use fault::WordsFault;
+pub use laws::{each_is_asked, order_is_free};
 pub use reader::{read, read_any};
