@@ -1,6 +1,7 @@
 mod Digits
 mod Faults
 mod Following
+mod Forms
 mod NearRows
 mod Order
 mod Ranges

@@ -26,10 +26,10 @@ use Rattle.hap_words.proofs.Reading.{asked-reading, hap_shape, read_end, reading
 
 -- ---- the options of hap
 
-abbrev rule_of_name : Name → Rule
+abbrev pub rule_of_name : Name → Rule
 rule_of_name n = filled (option_rule (word_of n))
 
-long-rule : (n : Name) → arg_by_long hap_shape.rules (word_of n) ≡ Some (rule_of_name n)
+pub long-rule : (n : Name) → arg_by_long hap_shape.rules (word_of n) ≡ Some (rule_of_name n)
 unfolding hap_shape hap_app
 long-rule name.Kind = refl
 long-rule name.In = refl
@@ -41,16 +41,16 @@ long-rule name.Index = refl
 long-rule name.Size = refl
 long-rule name.Component = refl
 
-once-only : hap_shape.args_override_self ≡ false
+pub once-only : hap_shape.args_override_self ≡ false
 unfolding hap_shape hap_app
 once-only = refl
 
 -- only the first word that is no option has a place
-one-place : (i : ℕ) → arg_by_index hap_shape.rules i ≡ cond (eqb 1 i) (Some (with_index 1 (filled command_rule))) None
+pub one-place : (i : ℕ) → arg_by_index hap_shape.rules i ≡ cond (eqb 1 i) (Some (with_index 1 (filled command_rule))) None
 unfolding hap_shape hap_app
 one-place i = refl
 
-last-place : (i : ℕ) (a : Rule) → arg_by_index hap_shape.rules i ≡ Some a → arg_by_index hap_shape.rules (next_position a i) ≡ None
+pub last-place : (i : ℕ) (a : Rule) → arg_by_index hap_shape.rules i ≡ Some a → arg_by_index hap_shape.rules (next_position a i) ≡ None
 last-place i a e = at (eqb 1 i) (eqb_tells 1 i) (sym (one-place i) ∙ e)
   where
     at : (b : Bool) → ((eqb 1 i ≡ true) × (1 ≡ i)) ⊎ ((eqb 1 i ≡ false) × (1 ≢ i)) → cond (eqb 1 i) (Some (with_index 1 (filled command_rule))) None ≡ Some a → arg_by_index hap_shape.rules (next_position a i) ≡ None
@@ -64,7 +64,7 @@ last-place i a e = at (eqb 1 i) (eqb_tells 1 i) (sym (one-place i) ∙ e)
 
 -- ---- words of options
 
-no-subcommand : (w : Waiting) (word : Text) → subcommand_met [] w word ≡ None
+pub no-subcommand : (w : Waiting) (word : Text) → subcommand_met [] w word ≡ None
 no-subcommand idle word = refl
 no-subcommand (option id) word = refl
 no-subcommand positional word = refl
@@ -121,11 +121,11 @@ or-assoc : (a b c : Bool) → (a || (b || c)) ≡ ((a || b) || c)
 or-assoc true b c = refl
 or-assoc false b c = refl
 
-neither : (a b : Bool) → (a || b) ≡ false → (a ≡ false) × (b ≡ false)
+pub neither : (a b : Bool) → (a || b) ≡ false → (a ≡ false) × (b ≡ false)
 neither true b e = absurd (true≢false e)
 neither false b e = (refl, e)
 
-absent : (id : Text) (change : Row → List Row) (missing rows : List Row) → has_row id rows ≡ false → at_row id change missing rows ≡ rows ++ missing
+pub absent : (id : Text) (change : Row → List Row) (missing rows : List Row) → has_row id rows ≡ false → at_row id change missing rows ≡ rows ++ missing
 absent id change missing [] e = refl
 absent id change missing (r ∷ rs) e =
     let k = neither (bytes_eq r.id id) (has_row id rs) e in
@@ -145,25 +145,25 @@ used-new n v rows e =
 
 -- ---- faults
 
-abbrev clash : Bool → Kinds
+abbrev pub clash : Bool → Kinds
 clash b = cond b (kind.ArgumentConflict ∷ []) []
 
-use-clashes : (n : Name) (v : Text) (rows : List Row) → use_fault false (rule_of_name n) (v ∷ []) rows ≡ clash (has_row (word_of n) rows)
+pub use-clashes : (n : Name) (v : Text) (rows : List Row) → use_fault false (rule_of_name n) (v ∷ []) rows ≡ clash (has_row (word_of n) rows)
 use-clashes n v rows = at (has_row (word_of n) rows)
   where
     at : (b : Bool) → or_else (cond (b && not false) (kind.ArgumentConflict ∷ []) []) [] ≡ clash b
     at true = refl
     at false = refl
 
-or-none : (k : Kinds) → or_else k [] ≡ k
+pub or-none : (k : Kinds) → or_else k [] ≡ k
 or-none [] = refl
 or-none (x ∷ k) = refl
 
-unless-none : (k : Kinds) → unless_faulty k None ≡ None
+pub unless-none : (k : Kinds) → unless_faulty k None ≡ None
 unless-none [] = refl
 unless-none (x ∷ k) = refl
 
-stray-none : (s : Shape) (o : Option Asked) → unless_faulty (stray_fault s) o ≡ None
+pub stray-none : (s : Shape) (o : Option Asked) → unless_faulty (stray_fault s) o ≡ None
 stray-none s o = at s.is_leaf
   where
     at : (b : Bool) → unless_faulty (cond b (kind.UnknownArgument ∷ []) (kind.UnknownArgument ∷ kind.InvalidSubcommand ∷ [])) o ≡ None
@@ -184,21 +184,21 @@ either-order [] a b a2 b2 x y h g e = by a b h g e
 
 -- ---- the walk
 
-abbrev at : Held → Waiting → ℕ → Walk
+abbrev pub at : Held → Waiting → ℕ → Walk
 at h w position = record { held = h; waiting = w; position = position; is_trailing = false; stopped = None }
 
 -- behind two hyphens
-abbrev behind : Held → Waiting → ℕ → Walk
+abbrev pub behind : Held → Waiting → ℕ → Walk
 behind h w position = record { held = h; waiting = w; position = position; is_trailing = true; stopped = None }
 
 -- where a subcommand was met the words are left to it
-reading-stopped : (s : Shape) (words : List Text) (h : Held) (w : Waiting) (position : ℕ) (is_trailing : Bool) (p : Text × List Text) →
+pub reading-stopped : (s : Shape) (words : List Text) (h : Held) (w : Waiting) (position : ℕ) (is_trailing : Bool) (p : Text × List Text) →
     reading s (record { held = h; waiting = w; position = position; is_trailing = is_trailing; stopped = Some p }) words ≡ read_end s h
 unfolding walked
 reading-stopped s [] h w position is_trailing p = refl
 reading-stopped s (x ∷ xs) h w position is_trailing p = reading-stopped s xs h w position is_trailing (p.0, p.1 ++ x ∷ [])
 
-one-behind : (s : Shape) (h : Held) (w : Waiting) (position : ℕ) (x : Text) (xs : List Text) → arg_by_index s.rules position ≡ None → reading s (behind h w position) (x ∷ xs) ≡ None
+pub one-behind : (s : Shape) (h : Held) (w : Waiting) (position : ℕ) (x : Text) (xs : List Text) → arg_by_index s.rules position ≡ None → reading s (behind h w position) (x ∷ xs) ≡ None
 one-behind s h w position x xs e =
     ap (λ (o : Option Rule). unless_faulty (option_map_or (λ (a : Rule). positional_fault s.rules s.args_override_self a h) o (stray_fault s)) (reading s (walked s.rules [] (behind h w position) x) xs)) e
     ∙ stray-none s (reading s (walked s.rules [] (behind h w position) x) xs)
@@ -207,7 +207,7 @@ module _ (s : Shape)
     (long : (n : Name) → arg_by_long s.rules (word_of n) ≡ Some (rule_of_name n))
     (once : s.args_override_self ≡ false)
     (last : (i : ℕ) (a : Rule) → arg_by_index s.rules i ≡ Some a → arg_by_index s.rules (next_position a i) ≡ None) where
-  two-behind : (h : Held) (w : Waiting) (position : ℕ) (x y : Text) (xs : List Text) → reading s (behind h w position) (x ∷ y ∷ xs) ≡ None
+  pub two-behind : (h : Held) (w : Waiting) (position : ℕ) (x y : Text) (xs : List Text) → reading s (behind h w position) (x ∷ y ∷ xs) ≡ None
   unfolding walked
   two-behind h w position x y xs = by (arg_by_index s.rules position) refl
     where
@@ -243,7 +243,7 @@ module _ (s : Shape)
       ap (λ (m : Held × Step). or_else (word_fault s [] false w (joined n v) h) (step_fault s position m.0 m.1)) (joined-met h w position n v)
       ∙ (or-none (word_fault s [] false w (joined n v) h) ∙ joined-word h w n v)
 
-  one-joined : (h : Held) (w : Waiting) (position : ℕ) (n : Name) (v : Text) (xs : List Text) →
+  pub one-joined : (h : Held) (w : Waiting) (position : ℕ) (n : Name) (v : Text) (xs : List Text) →
       reading s (at h w position) (joined n v ∷ xs)
       ≡ unless_faulty (or_else (settle_fault s.rules s.args_override_self h) (clash (has_row (word_of n) (settled_rows s.rules h.pending h.rows)))) (reading s (at (reacted s.rules (rule_of_name n) (v ∷ []) h) idle position) xs)
   one-joined h w position n v xs =

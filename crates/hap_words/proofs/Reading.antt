@@ -26,7 +26,7 @@ abbrev pub reading : Shape → Walk → List Text → Option Asked
 reading s w [] = read_end s w.held
 reading s w (x ∷ xs) = unless_faulty (turn_fault s [] w x) (reading s (walked s.rules [] w x) xs)
 
-unless-or : (t r : Kinds) (o : Option Asked) → unless_faulty (or_else t r) o ≡ unless_faulty t (unless_faulty r o)
+pub unless-or : (t r : Kinds) (o : Option Asked) → unless_faulty (or_else t r) o ≡ unless_faulty t (unless_faulty r o)
 unless-or [] r o = refl
 unless-or (k ∷ t) r o = refl
 

@@ -3,10 +3,13 @@
 --   kind_word kind        the word of a kind of input
 --   words_of asked        words that ask for the command with these values
 --   EachIsAsked           each command in range is what its words ask for
+--   opened name           the word of an option whose value is the next word: two hyphens and the name
+--   stands_alone value    it may be a word behind that: it is empty, or a hyphen alone, or has no hyphen in front
+--   FormIsFree            an option in two such words is read as in one
 --   OrderIsFree           two options of different names that stand side by side may change places: in front of them and
 --                         behind them may stand any words
 --   number_word, joined_if, source_words, from_text: steps
-use Rattle.std.specs.Prelude.{◌≡◌, ℕ, List, [], ◌∷◌, ◌++◌, true, false, ◌==◌, codes, decimal, option_map, if◌then◌else◌}
+use Rattle.std.specs.Prelude.{◌≡◌, ℕ, List, [], ◌∷◌, ◌++◌, Bool, true, false, not, ◌||◌, ◌==◌, codes, decimal, option_map, if◌then◌else◌}
 use Rattle.std.specs.declared.option.Option.{Option}
 use Rattle.std.specs.declared.option.Option.TheVariants.{Some, None}
 use Rattle.clap.specs.Words.{Text}
@@ -16,7 +19,7 @@ use Rattle.hap_words.specs.declared.command.Kind.TheVariants.{Boundary, Cubical,
 use Rattle.hap_words.specs.declared.table.Name.{Name}
 use Rattle.hap_words.specs.declared.table.Name.TheVariants as name
 use Rattle.hap_words.specs.Asked.{Asked, Source, SearchSpot, cells, check, betti, cup, verify, migrate, group, covers, cover, report, make}
-use Rattle.hap_words.specs.Ranges.{is_in_range}
+use Rattle.hap_words.specs.Ranges.{is_empty, is_in_range}
 use Rattle.hap_words.specs.Table.{word_of, number_of_name, asked}
 
 -- ---- the words of a command
@@ -64,10 +67,23 @@ words_of (report a) =
     ∷ (joined_if name.From (from_text a.from) ++ source_words a.source)
 words_of (make a) = codes "make" ∷ number_word name.Size a.size ∷ joined_if name.Mod (option_map decimal a.modulus)
 
+-- ---- an option in two words
+
+abbrev pub opened : Name → Text
+opened n = 45 ∷ 45 ∷ word_of n
+
+abbrev pub stands_alone : Text → Bool
+stands_alone [] = true
+stands_alone (b ∷ bs) = not (b == 45) || is_empty bs
+
 -- ---- laws
 
 abbrev pub EachIsAsked : Type 0
 EachIsAsked = (a : Asked) → is_in_range a ≡ true → asked (words_of a) ≡ Some a
+
+abbrev pub FormIsFree : Type 0
+FormIsFree = (before after : List Text) (n : Name) (v : Text) → stands_alone v ≡ true →
+    asked (before ++ opened n ∷ v ∷ after) ≡ asked (before ++ joined n v ∷ after)
 
 abbrev pub OrderIsFree : Type 0
 OrderIsFree = (before after : List Text) (m n : Name) (u v : Text) → (number_of_name m == number_of_name n) ≡ false →

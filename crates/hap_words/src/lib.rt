@@ -14,5 +14,5 @@ pub use command::{
     NameOptions, ReportOptions,
 };
 pub use fault::WordsFault;
-pub use laws::{each_is_asked, order_is_free};
+pub use laws::{each_is_asked, form_is_free, order_is_free};
 pub use reader::{read, read_any};
