@@ -4,7 +4,8 @@
 
 ghost use Rattle.std.specs.Prelude.{◌≡◌, ◌<◌};
 
-use hap_cli::{Outcome, end_with, run};
+use hap_cli::run;
+use hap_ends::{Outcome, end_with};
 use hap_outside::{HostSink, HostSource};
 use std::alloc::AllocError;
 use std::env;
@@ -47,6 +48,6 @@ fn words_of(rt: &HostRuntime) -> Result<Vec<String>, Outcome> {
 fn main(rt: HostRuntime) -> ExitCode {
     match words_of(&rt) {
         Ok(words) => ExitCode::from(run_here::<Brand>(rt, &words, Blank::new(1))),
-        Err(outcome) => ExitCode::from(end_with(&mut HostSink::new(rt.stderr()), outcome)),
+        Err(outcome) => ExitCode::from(end_with(&mut HostSink::new(rt.stderr()), &outcome)),
     }
 }

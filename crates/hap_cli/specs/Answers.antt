@@ -1,14 +1,23 @@
--- What a command writes.
---   cells_text space      how many cells each dimension has, and their alternating sum
---   check_text space      the same, that the space is regular, and how many components it has
---   betti_text numbers    the Betti numbers of degrees 0 to 3
---   summary_text size space numbers   of a 3-torus: its size, its cells, the chains of each degree, the Betti numbers
---   torus_text, chains_text           the first and the third of these lines
---   IsMade size modulus text          the boundary text of the 3-torus, or with a modulus its summary
---   IsAnswer asked bytes text         the text is an answer of the command on these bytes
-use Rattle.std.specs.Prelude.{◌≡◌, ℕ, List, ◌++◌, codes, decimal, length}
+-- What a command answers, and what it writes.
+--   cells_text space            how many cells each dimension has, and their alternating sum
+--   components_text space n     the same, that the space is regular, and that it has n components
+--   check_text space            so of the components that it has
+--   betti_text numbers          the Betti numbers of degrees 0 to 3
+--   chain_numbers space         how many chains of each degree the order complex has
+--   told_text size space chains numbers   of a 3-torus: its size, its cells, its chains, its Betti numbers
+--   torus_text, chains_text     the first and the third of these lines
+--   IsMade size modulus text    the boundary text of the 3-torus, or with a modulus what is told of it
+--   IsAnswer asked bytes text   the text is an answer of the command on these bytes
+-- and for the code, whose answers are values
+--   text_of answer              the text of an answer
+--   Gives asked bytes result    an answer whose text is one of the command, or the cause of a refusal, or want of memory
+--   GivesFew space P result     a value of which P holds, of a space with few enough chains; or its refusal; or want of memory
+--   IsSummary size modulus s    it tells of the 3-torus of the size
+--   summary_text summary        the text of it
+use Rattle.std.specs.Prelude.{◌≡◌, ℕ, List, ◌++◌, codes, decimal, length, ⊤}
 use Rattle.std.specs.Fmt.{signed_decimal}
-use Rattle.std.specs.declared.result.Result.TheVariants.{Ok}
+use Rattle.std.specs.declared.result.Result.{Result}
+use Rattle.std.specs.declared.result.Result.TheVariants.{Ok, Err}
 use Rattle.std.specs.declared.option.Option.{Option}
 use Rattle.std.specs.declared.option.Option.TheVariants.{Some, None}
 use Rattle.face_poset.specs.Poset.{Layers, count, euler_of}
@@ -20,7 +29,16 @@ use Rattle.small_field.specs.Prime.{mod_ops}
 use Rattle.order_complex.specs.declared.betti.Betti.{Betti}
 use Rattle.order_complex.specs.Numbers.{AreBetti}
 use Rattle.hap_words.specs.Asked.{Asked, cells, check, betti, make}
-use Rattle.hap_cli.specs.Spaces.{reading, regular_reading}
+use Rattle.hap_ends.specs.declared.outcome.Outcome.{Outcome}
+use Rattle.hap_ends.specs.declared.outcome.Outcome.TheVariants.{Refused, Memory}
+use Rattle.hap_ends.specs.Refusals.{bare}
+use Rattle.hap_ends.specs.Outcomes.{Fails}
+use Rattle.hap_inputs.specs.Spaces.{space_in, regular_in, only_few}
+use Rattle.hap_cli.specs.declared.answer.Answer.{Answer}
+use Rattle.hap_cli.specs.declared.answer.Answer.TheVariants as answer
+use Rattle.hap_cli.specs.declared.make.Summary.{Summary}
+use Rattle.hap_cli.specs.declared.make.ChainNumbers.{ChainNumbers}
+use Rattle.hap_cli.specs.Refusals.{cause}
 
 abbrev pub cells_text : Layers → List ℕ
 cells_text space =
@@ -28,8 +46,11 @@ cells_text space =
     ++ (decimal (count space 2) ++ (codes " " ++ (decimal (count space 3)
     ++ (codes "\neuler " ++ (signed_decimal (euler_of space) ++ codes "\n")))))))))
 
+abbrev pub components_text : Layers → ℕ → List ℕ
+components_text space components = cells_text space ++ (codes "regular\ncomponents " ++ (decimal components ++ codes "\n"))
+
 abbrev pub check_text : Layers → List ℕ
-check_text space = cells_text space ++ (codes "regular\ncomponents " ++ (decimal (component_count space) ++ codes "\n"))
+check_text space = components_text space (component_count space)
 
 abbrev pub betti_text : Betti → List ℕ
 betti_text b =
@@ -38,22 +59,59 @@ betti_text b =
 abbrev pub torus_text : ℕ → List ℕ
 torus_text size = codes "torus " ++ (decimal size ++ codes "\n")
 
-abbrev pub chains_text : Layers → List ℕ
-chains_text space =
-    codes "chains " ++ (decimal (length (chains_of space 0)) ++ (codes " " ++ (decimal (length (chains_of space 1)) ++ (codes " "
-    ++ (decimal (length (chains_of space 2)) ++ (codes " " ++ (decimal (length (chains_of space 3)) ++ codes "\n")))))))
+abbrev pub chain_numbers : Layers → ChainNumbers
+chain_numbers space = record {
+  zero = length (chains_of space 0);
+  one = length (chains_of space 1);
+  two = length (chains_of space 2);
+  three = length (chains_of space 3);
+}
 
-abbrev pub summary_text : (size : ℕ) → Layers → Betti → List ℕ
-summary_text size space numbers = (torus_text size ++ cells_text space) ++ (chains_text space ++ betti_text numbers)
+abbrev pub chains_text : ChainNumbers → List ℕ
+chains_text c =
+    codes "chains " ++ (decimal c.zero ++ (codes " " ++ (decimal c.one ++ (codes " " ++ (decimal c.two ++ (codes " " ++ (decimal c.three ++ codes "\n")))))))
+
+abbrev pub told_text : (size : ℕ) → Layers → ChainNumbers → Betti → List ℕ
+told_text size space chains numbers = (torus_text size ++ cells_text space) ++ (chains_text chains ++ betti_text numbers)
 
 abbrev pub IsMade : (size : ℕ) → (modulus : Option ℕ) → List ℕ → Type 0
 IsMade size None text = text ≡ boundary_text (torus_of size)
-IsMade size (Some p) text = (numbers : Betti) × AreBetti (mod_ops p) (torus_of size) numbers × (text ≡ summary_text size (torus_of size) numbers)
+IsMade size (Some p) text =
+    (numbers : Betti) × AreBetti (mod_ops p) (torus_of size) numbers
+    × (text ≡ told_text size (torus_of size) (chain_numbers (torus_of size)) numbers)
 
 abbrev pub IsAnswer : Asked → List ℕ → List ℕ → Type 0
-IsAnswer (cells s) bytes text = (space : Layers) × (reading s.kind bytes ≡ Ok space) × (text ≡ cells_text space)
-IsAnswer (check s) bytes text = (space : Layers) × (regular_reading s.kind bytes ≡ Ok space) × (text ≡ check_text space)
-IsAnswer (betti s p) bytes text =
-    (space : Layers) × (regular_reading s.kind bytes ≡ Ok space) × (numbers : Betti) × AreBetti (mod_ops p) space numbers × (text ≡ betti_text numbers)
-IsAnswer (make n p) bytes text = IsMade n p text
+IsAnswer (cells o) bytes text = (space : Layers) × (space_in o.source.kind bytes ≡ Ok space) × (text ≡ cells_text space)
+IsAnswer (check o) bytes text = (space : Layers) × (regular_in o.source.kind bytes ≡ Ok space) × (text ≡ check_text space)
+IsAnswer (betti o) bytes text =
+    (space : Layers) × (regular_in o.source.kind bytes ≡ Ok space)
+    × (numbers : Betti) × AreBetti (mod_ops o.modulus) space numbers × (text ≡ betti_text numbers)
+IsAnswer (make o) bytes text = IsMade o.size o.modulus text
 IsAnswer other bytes text = ⊥
+
+-- ---- answers as values
+
+abbrev pub summary_text : Summary → List ℕ
+summary_text s = told_text s.size s.space s.chains s.numbers
+
+abbrev pub text_of : Answer → List ℕ
+text_of (answer.Cells space) = cells_text space
+text_of (answer.Check space components) = components_text space components
+text_of (answer.Betti numbers) = betti_text numbers
+text_of (answer.Boundaries space) = boundary_text space
+text_of (answer.Summary summary) = summary_text summary
+
+abbrev pub Gives : Asked → List ℕ → Result Answer Outcome → Type 0
+Gives asked bytes (Ok answer) = (cause asked bytes ≡ None) × IsAnswer asked bytes (text_of answer)
+Gives asked bytes (Err (Refused refusal)) = cause asked bytes ≡ Some (bare refusal)
+Gives asked bytes (Err Memory) = ⊤
+Gives asked bytes (Err other) = ⊥
+
+abbrev pub GivesFew : {T : Type 0} → Layers → (T → Type 0) → Result T Outcome → Type 0
+GivesFew space P (Ok value) = (only_few (Ok space) ≡ Ok space) × P value
+GivesFew space P (Err outcome) = Fails (only_few (Ok space)) outcome
+
+abbrev pub IsSummary : (size modulus : ℕ) → Summary → Type 0
+IsSummary size modulus s =
+    (s.size ≡ size) × (s.space ≡ torus_of size) × (s.chains ≡ chain_numbers (torus_of size))
+    × AreBetti (mod_ops modulus) (torus_of size) s.numbers

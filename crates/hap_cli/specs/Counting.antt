@@ -1,10 +1,9 @@
 -- How many steps a run counts: row additions in the coboundaries of a space.
---   most_steps stage               rows times columns of the coboundaries of the space, 0 where it is refused
---   RisesBy name store most old new   where the source tells its bytes, the count rises by at most what they give
---   make_steps size modulus        the most for `make`: 0 without a modulus
---   Counts asked store old new     what the count of a command does: for most commands it stays
---   CountsIf words store old new   the same of what the words ask for; it stays where they are refused
-use Rattle.std.specs.Prelude.{◌≡◌, ◌≤◌, ◌+◌, ℕ, List, ⊤, IfSome}
+--   entries_of stage             rows times columns of the coboundaries of the space, 0 where it is refused
+--   Counts asked bytes old new   what the count of a command does on these bytes: for most commands it stays
+--   CountsBy asked store old new the count stays, or the input was read, and the count does so on its bytes
+--   CountsIf words store old new the same of what the words ask for; it stays where they are refused
+use Rattle.std.specs.Prelude.{◌≡◌, ◌≤◌, ◌+◌, ◌⊎◌, ℕ, List}
 use Rattle.std.specs.declared.result.Result.{Result}
 use Rattle.std.specs.declared.result.Result.TheVariants.{Ok, Err}
 use Rattle.std.specs.declared.option.Option.{Option}
@@ -13,26 +12,27 @@ use Rattle.face_poset.specs.Poset.{Layers}
 use Rattle.order_complex.specs.Numbers.{coboundary_entries}
 use Rattle.hap_outside.specs.Stores.{Store}
 use Rattle.hap_words.specs.Asked.{Asked, betti, make}
-use Rattle.hap_cli.specs.declared.refusal.Refusal.{Refusal}
-use Rattle.hap_cli.specs.Spaces.{few_reading, made}
+use Rattle.hap_ends.specs.declared.refusal.Refusal.{Refusal}
+use Rattle.hap_inputs.specs.Input.{OnInput}
+use Rattle.hap_inputs.specs.Spaces.{few_in}
+use Rattle.hap_cli.specs.Refusals.{made}
 
-abbrev pub most_steps : Result Layers Refusal → ℕ
-most_steps (Ok space) = coboundary_entries space
-most_steps (Err refusal) = 0
+abbrev pub entries_of : Result Layers Refusal → ℕ
+entries_of (Ok space) = coboundary_entries space
+entries_of (Err refusal) = 0
 
-abbrev pub RisesBy : Option (List ℕ) → Option Store → (List ℕ → ℕ) → (old new : ℕ) → Type 0
-RisesBy name None most old new = ⊤
-RisesBy name (Some store) most old new = IfSome (store name) (λ bytes. new ≤ old + most bytes)
+abbrev pub make_entries : (size : ℕ) → (modulus : Option ℕ) → ℕ
+make_entries size None = 0
+make_entries size (Some p) = entries_of (made size (Some p))
 
-abbrev pub make_steps : (size : ℕ) → (modulus : Option ℕ) → ℕ
-make_steps size None = 0
-make_steps size (Some p) = most_steps (made size (Some p))
+abbrev pub Counts : Asked → List ℕ → (old new : ℕ) → Type 0
+Counts (betti o) bytes old new = new ≤ old + entries_of (few_in o.source.kind bytes)
+Counts (make o) bytes old new = new ≤ old + make_entries o.size o.modulus
+Counts other bytes old new = new ≡ old
 
-abbrev pub Counts : Asked → Option Store → (old new : ℕ) → Type 0
-Counts (betti s p) store old new = RisesBy s.name store (λ bytes. most_steps (few_reading s.kind bytes)) old new
-Counts (make n p) store old new = new ≤ old + make_steps n p
-Counts other store old new = new ≡ old
+abbrev pub CountsBy : Asked → Option Store → (old new : ℕ) → Type 0
+CountsBy asked store old new = (new ≡ old) ⊎ OnInput asked store (λ bytes. Counts asked bytes old new)
 
 abbrev pub CountsIf : Option Asked → Option Store → (old new : ℕ) → Type 0
 CountsIf None store old new = new ≡ old
-CountsIf (Some asked) store old new = Counts asked store old new
+CountsIf (Some asked) store old new = CountsBy asked store old new

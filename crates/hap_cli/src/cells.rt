@@ -1,12 +1,30 @@
-// What the commands `cells` and `check` write.
-ghost use Rattle.std.specs.Prelude.{◌≡◌};
+// The command `cells`.
+ghost use Rattle.std.specs.Prelude.{◌≡◌, ◌≤◌, length};
 ghost use Rattle.hap_outside.specs.Causes.{HasCause};
 ghost use Rattle.hap_outside.specs.Writes.{Writes};
-ghost use Rattle.regular_check.specs.Components.{component_count};
-ghost use Rattle.hap_cli.specs.Answers.{cells_text, check_text};
+ghost use Rattle.hap_words.specs.Asked.{cells, input_of};
+ghost use Rattle.hap_cli.specs.Answers.{cells_text, Gives};
 
+use crate::answer::Answer;
 use face_poset::{Graded, Space};
+use hap_ends::Outcome;
+use hap_inputs::space_of_bytes;
 use hap_outside::{Failed, Piece, Sink, write_pieces};
+use hap_words::InputOptions;
+use std::alloc::Global;
+
+/// The space of the input.
+pub fn answer_cells(
+    alloc: Global,
+    options: &InputOptions,
+    bytes: &[u8],
+) -> Result<Answer, Outcome>
+    requires { length bytes.now ≤ 67108864 }
+    ensures { Gives (cells (input_of options.now)) bytes.now result }
+{
+    let space = space_of_bytes(alloc, options.input.kind, bytes)?;
+    Ok(Answer::Cells(space))
+}
 
 /// Writes the number of cells of each dimension, and their alternating sum.
 pub fn write_cells<K: Sink>(out: &mut K, space: &Space) -> Result<(), Failed>
@@ -32,25 +50,6 @@ pub fn write_cells<K: Sink>(out: &mut K, space: &Space) -> Result<(), Failed>
             Piece::Text(b"\n"),
             Piece::Text(b"euler "),
             euler,
-            Piece::Text(b"\n"),
-        ],
-    )
-}
-
-/// Writes the same of a regular space, and how many components it has.
-pub fn write_check<K: Sink>(out: &mut K, space: &Space, components: u32) -> Result<(), Failed>
-    requires { components ≡ component_count space.now }
-    ensures bytes { Writes (K.written out.old) (K.written out.new) (check_text space.now) result }
-    ensures cause { HasCause (K.faults out.old) (K.faults out.new) result }
-{
-    write_cells(out, space)?;
-    let components = Piece::Count(u64::from(components));
-    write_pieces(
-        out,
-        &[
-            Piece::Text(b"regular\n"),
-            Piece::Text(b"components "),
-            components,
             Piece::Text(b"\n"),
         ],
     )

@@ -4,15 +4,11 @@
 //! ends, what it then wrote, and why.
 #![tactic(auto)]
 
+mod answer;
 mod betti;
 mod cells;
-mod input;
-mod making;
-mod outcome;
-mod refusal;
+mod check;
+mod make;
 mod running;
-mod space;
 
-pub use outcome::{Outcome, end_with, status};
-pub use refusal::Refusal;
 pub use running::run;

@@ -1,25 +1,23 @@
 // The whole program over the source, the sinks and the words that are handed in.
-ghost use Rattle.std.specs.Prelude.{◌≡◌, ◌≢◌, ◌⊎◌, ◌<◌, true, false, map, string_bytes, IfSome, IsNone};
+ghost use Rattle.std.specs.Prelude.{◌≡◌, ◌≢◌, ◌⊎◌, ◌≤◌, ◌<◌, true, false, map, length, string_bytes, IfSome, IsNone};
 ghost use Rattle.std.specs.Io.KnownBytes.{IsAtEnd};
 ghost use Rattle.hap_outside.specs.Causes.{Rose};
 ghost use Rattle.hap_outside.specs.Stores.{bytes_under};
-ghost use Rattle.hap_words.specs.Asked.{cells, check, betti, source_of, asked_of};
+ghost use Rattle.hap_words.specs.Asked.{asked_of};
 ghost use Rattle.hap_words.specs.Ranges.{is_in_range};
-ghost use Rattle.small_field.specs.Modulus.{is_modulus};
 ghost use Rattle.hap_words.specs.Table.{is_built, read as asked_by};
-ghost use Rattle.hap_cli.specs.declared.outcome.Outcome.{Outcome as AnOutcome};
-ghost use Rattle.hap_cli.specs.Input.{input_name, told_store, has_input, reads_input};
+ghost use Rattle.hap_ends.specs.declared.outcome.Outcome.{Outcome as AnOutcome};
+ghost use Rattle.hap_ends.specs.Outcomes.{status_of, line_of, Tells};
+ghost use Rattle.hap_inputs.specs.Input.{input_name, limit_of, told_store, has_input, reads_input};
 ghost use Rattle.hap_cli.specs.Refusals.{refusal};
-ghost use Rattle.hap_cli.specs.Counting.{Counts, CountsIf};
-ghost use Rattle.hap_cli.specs.Outcomes.{status_of, line_of, status_for, Tells, IsEnd, EndsBy};
+ghost use Rattle.hap_cli.specs.Counting.{Counts, CountsBy, CountsIf};
+ghost use Rattle.hap_cli.specs.Ends.{ending, status_for, asks_cover, may_write, EndsOn, IsEnd, EndsBy};
 
-use crate::betti::{few_betti, write_betti};
-use crate::cells::{write_cells, write_check};
-use crate::making::run_make;
-use crate::outcome::{Outcome, end_with, written};
-use crate::space::{read_space, regular_space};
+use crate::answer::{answer, write_answer};
+use hap_ends::{Outcome, end_with, written};
+use hap_inputs::read_input;
 use hap_outside::{Sink, Source};
-use hap_words::{Command, Input, WordsFault, read};
+use hap_words::{Command, WordsFault, read};
 use std::alloc::Global;
 use std::mem::drop;
 use std::sync::ledger::Ledger;
@@ -57,12 +55,13 @@ pub fn run<S: Source, K: Sink, E: Sink, L: Ledger>(
     ensures usage { IsNone (asked_by (map string_bytes words.now)) → (result ≡ 2) ⊎ (result ≡ 9) }
     ensures untouched { reads_input (asked_by (map string_bytes words.now)) ≡ false → source.new ≡ source.old }
 
-    // Where nothing failed outside, the status is that of the refusal, or 0, or memory was wanting.
+    // Where nothing failed outside, the status is that of the refusal, else 6 exactly where the search ends at a spot, else
+    // 0; or memory was wanting.
     ensures exact { IfSome (asked_by (map string_bytes words.now)) (λ asked.
         IfSome (bytes_under (told_store asked (S.store source.old)) (input_name asked)) (λ bytes.
         (Rose (S.faults source.old) (S.faults source.new) → ⊥)
         → (Rose (K.faults out.old) (K.faults out.new) → ⊥)
-        → (result ≡ status_for (refusal asked bytes)) ⊎ (result ≡ 9))) }
+        → (result ≡ status_for (refusal asked bytes) (ending asked bytes)) ⊎ (result ≡ 9))) }
 
     // Faults come only where the count rose, and always where it is greater after than before.
     ensures read { result ≡ 7 → Rose (S.faults source.old) (S.faults source.new) }
@@ -70,16 +69,21 @@ pub fn run<S: Source, K: Sink, E: Sink, L: Ledger>(
     ensures write { result ≡ 8 → Rose (K.faults out.old) (K.faults out.new) }
     ensures write_told { K.faults out.old < K.faults out.new → result ≡ 8 }
 
-    // What is left.
-    ensures end { result ≡ 0 → reads_input (asked_by (map string_bytes words.now)) ≡ true → IsAtEnd (S.left source.new) }
-    ensures nothing { result ≢ 0 → result ≢ 8 → out.new ≡ out.old }
+    // What is left: an input that was read is read to its end, and no byte is written but with status 0, 6 and 8, and none
+    // with 6 of `cover`.
+    ensures end { (result ≡ 0) ⊎ (result ≡ 6) → reads_input (asked_by (map string_bytes words.now)) ≡ true
+        → IsAtEnd (S.left source.new) }
+    ensures nothing { result ≢ 0 → result ≢ 6 → result ≢ 8 → out.new ≡ out.old }
+    ensures unspent { asks_cover (asked_by (map string_bytes words.now)) ≡ true → result ≡ 6 → out.new ≡ out.old }
     ensures silent { result ≡ 0 → err.new ≡ err.old }
 
     // The row additions of reducing coboundaries are counted, and nothing else.
     ensures steps { CountsIf (asked_by (map string_bytes words.now)) (S.store source.old) steps.old steps.new }
 {
     let outcome = perform_words(alloc, words, source, out, steps);
-    end_with(err, outcome)
+    let status = end_with(err, &outcome);
+    drop(outcome);
+    status
 }
 
 // Reads the words and does what they ask for.
@@ -97,9 +101,9 @@ fn perform_words<S: Source, K: Sink, L: Ledger>(
     ensures untouched { reads_input (asked_by (map string_bytes words.now)) ≡ false → source.new ≡ source.old }
     ensures read_told { S.faults source.old < S.faults source.new → result ≡ Outcome.ReadFault }
     ensures write_told { K.faults out.old < K.faults out.new → result ≡ Outcome.WriteFault }
-    ensures end { result ≡ Outcome.Done → reads_input (asked_by (map string_bytes words.now)) ≡ true
-        → IsAtEnd (S.left source.new) }
-    ensures nothing { result ≢ Outcome.Done → result ≢ Outcome.WriteFault → out.new ≡ out.old }
+    ensures end { (status_of result ≡ 0) ⊎ (status_of result ≡ 6)
+        → reads_input (asked_by (map string_bytes words.now)) ≡ true → IsAtEnd (S.left source.new) }
+    ensures nothing { may_write result ≡ false → out.new ≡ out.old }
     ensures steps { CountsIf (asked_by (map string_bytes words.now)) (S.store source.old) steps.old steps.new }
 {
     match read(alloc, words) {
@@ -113,7 +117,7 @@ fn perform_words<S: Source, K: Sink, L: Ledger>(
     }
 }
 
-// Reads the input of the command and writes its answer.
+// Reads the input of the command and writes what it answers.
 fn perform<S: Source, K: Sink, L: Ledger>(
     alloc: Global,
     command: &Command,
@@ -130,104 +134,45 @@ fn perform<S: Source, K: Sink, L: Ledger>(
     ensures read_told { S.faults source.old < S.faults source.new → result ≡ Outcome.ReadFault }
     ensures write_told { K.faults out.old < K.faults out.new → result ≡ Outcome.WriteFault }
     ensures untouched { has_input (asked_of command.now) ≡ false → source.new ≡ source.old }
-    ensures end { result ≡ Outcome.Done → has_input (asked_of command.now) ≡ true → IsAtEnd (S.left source.new) }
-    ensures nothing { result ≢ Outcome.Done → result ≢ Outcome.WriteFault → out.new ≡ out.old }
-    ensures steps { Counts (asked_of command.now) (S.store source.old) steps.old steps.new }
+    ensures end { (status_of result ≡ 0) ⊎ (status_of result ≡ 6)
+        → has_input (asked_of command.now) ≡ true → IsAtEnd (S.left source.new) }
+    ensures nothing { may_write result ≡ false → out.new ≡ out.old }
+    ensures steps { CountsBy (asked_of command.now) (S.store source.old) steps.old steps.new }
 {
-    match command {
-        Command::Cells { input } => run_cells(alloc, input, source, out),
-        Command::Check { input } => run_check(alloc, input, source, out),
-        Command::Betti { input, modulus } => run_betti(alloc, input, *modulus, source, out, steps),
-        Command::Make { size, modulus } => run_make(alloc, *size, *modulus, out, steps),
-        _ => Outcome::Usage,
+    match read_input(alloc, command, source) {
+        Ok(bytes) => {
+            let outcome = perform_on(alloc, command, &bytes, out, steps);
+            drop(bytes);
+            outcome
+        }
+        Err(outcome) => outcome,
     }
 }
 
-// Reads a space and writes how many cells it has.
-fn run_cells<S: Source, K: Sink>(
+// Writes what the command answers on the bytes of its input.
+fn perform_on<K: Sink, L: Ledger>(
     alloc: Global,
-    input: &Input,
-    source: &mut S,
-    out: &mut K,
-) -> Outcome
-    requires { S.begun source.old ≡ false }
-    ensures cause { IsEnd (cells (source_of input.now)) (S.store source.old)
-        (Rose (S.faults source.old) (S.faults source.new)) (Rose (K.faults out.old) (K.faults out.new))
-        (K.written out.old) (K.written out.new) result }
-    ensures read_told { S.faults source.old < S.faults source.new → result ≡ Outcome.ReadFault }
-    ensures write_told { K.faults out.old < K.faults out.new → result ≡ Outcome.WriteFault }
-    ensures end { result ≡ Outcome.Done → IsAtEnd (S.left source.new) }
-    ensures nothing { result ≢ Outcome.Done → result ≢ Outcome.WriteFault → out.new ≡ out.old }
-{
-    let space = match read_space(alloc, input, source) {
-        Ok(space) => space,
-        Err(outcome) => return outcome,
-    };
-    written(write_cells(out, &space))
-}
-
-// Reads a regular space and writes how many cells and components it has.
-fn run_check<S: Source, K: Sink>(
-    alloc: Global,
-    input: &Input,
-    source: &mut S,
-    out: &mut K,
-) -> Outcome
-    requires { S.begun source.old ≡ false }
-    ensures cause { IsEnd (check (source_of input.now)) (S.store source.old)
-        (Rose (S.faults source.old) (S.faults source.new)) (Rose (K.faults out.old) (K.faults out.new))
-        (K.written out.old) (K.written out.new) result }
-    ensures read_told { S.faults source.old < S.faults source.new → result ≡ Outcome.ReadFault }
-    ensures write_told { K.faults out.old < K.faults out.new → result ≡ Outcome.WriteFault }
-    ensures end { result ≡ Outcome.Done → IsAtEnd (S.left source.new) }
-    ensures nothing { result ≢ Outcome.Done → result ≢ Outcome.WriteFault → out.new ≡ out.old }
-{
-    let space = match read_space(alloc, input, source) {
-        Ok(space) => space,
-        Err(outcome) => return outcome,
-    };
-    let regular = match regular_space(alloc, &space) {
-        Ok(regular) => regular,
-        Err(outcome) => return outcome,
-    };
-    let components = match regular.components(alloc) {
-        Ok(components) => components,
-        Err(_) => return Outcome::Memory,
-    };
-    written(write_check(out, &space, components.count()))
-}
-
-// Reads a regular space and writes the Betti numbers of its order complex.
-fn run_betti<S: Source, K: Sink, L: Ledger>(
-    alloc: Global,
-    input: &Input,
-    modulus: u8,
-    source: &mut S,
+    command: &Command,
+    bytes: &[u8],
     out: &mut K,
     steps: &mut Steps<L>,
 ) -> Outcome
-    requires begun { S.begun source.old ≡ false }
-    requires modulus { is_modulus modulus ≡ true }
-    ensures cause { IsEnd (betti (source_of input.now) modulus) (S.store source.old)
-        (Rose (S.faults source.old) (S.faults source.new)) (Rose (K.faults out.old) (K.faults out.new))
+    requires few { length bytes.now ≤ limit_of (asked_of command.now) }
+    requires built { is_built (asked_of command.now) ≡ true }
+    requires ranges { is_in_range (asked_of command.now) ≡ true }
+    ensures cause { EndsOn (asked_of command.now) bytes.now (Rose (K.faults out.old) (K.faults out.new))
         (K.written out.old) (K.written out.new) result }
-    ensures read_told { S.faults source.old < S.faults source.new → result ≡ Outcome.ReadFault }
+    ensures read { result ≢ Outcome.ReadFault }
     ensures write_told { K.faults out.old < K.faults out.new → result ≡ Outcome.WriteFault }
-    ensures end { result ≡ Outcome.Done → IsAtEnd (S.left source.new) }
-    ensures nothing { result ≢ Outcome.Done → result ≢ Outcome.WriteFault → out.new ≡ out.old }
-    ensures steps { Counts (betti (source_of input.now) modulus) (S.store source.old) steps.old steps.new }
+    ensures nothing { may_write result ≡ false → out.new ≡ out.old }
+    ensures steps { Counts (asked_of command.now) bytes.now steps.old steps.new }
 {
-    let space = match read_space(alloc, input, source) {
-        Ok(space) => space,
-        Err(outcome) => return outcome,
-    };
-    let regular = match regular_space(alloc, &space) {
-        Ok(regular) => regular,
-        Err(outcome) => return outcome,
-    };
-    let numbers = match few_betti(alloc, regular.space(), modulus, steps) {
-        Ok(numbers) => numbers,
-        Err(outcome) => return outcome,
-    };
-    written(write_betti(out, numbers))
+    match answer(alloc, command, bytes, steps) {
+        Ok(answer) => {
+            let answered = write_answer(out, &answer);
+            drop(answer);
+            written(answered)
+        }
+        Err(outcome) => outcome,
+    }
 }

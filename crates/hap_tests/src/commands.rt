@@ -22,8 +22,8 @@ fn asked(alloc: Global, line: &[&str]) -> Result<Command, WordsFault> {
 /// The kind and the name of an input.
 fn input_of(command: &Command) -> Option<(Kind, Option<&str>)> {
     match command {
-        Command::Cells { input } | Command::Check { input } => Some(named(input)),
-        Command::Betti { input, .. } => Some(named(input)),
+        Command::Cells(options) | Command::Check(options) => Some(named(&options.input)),
+        Command::Betti(options) => Some(named(&options.input)),
         _ => None,
     }
 }
@@ -59,8 +59,8 @@ fn inputs_have_a_kind_and_a_name(rt: HostRuntime) -> Result<(), Fail> {
 /// The modulus of a command, and the size of the torus that it makes.
 fn numbers_of(command: &Command) -> Option<(u32, Option<u8>)> {
     match command {
-        Command::Betti { modulus, .. } => Some((0, Some(*modulus))),
-        Command::Make { size, modulus } => Some((*size, *modulus)),
+        Command::Betti(options) => Some((0, Some(options.modulus))),
+        Command::Make(options) => Some((options.size, options.modulus)),
         _ => None,
     }
 }

@@ -94,14 +94,29 @@ pub fn run_unread(alloc: Global, line: &[&str]) -> Result<u8, AllocError> {
     Ok(run_on_source(alloc, line, &mut source, Paper::new(alloc, 1000)?)?.status)
 }
 
-/// Counts the cells of a point, where the read and the write with these numbers, counted from 1, fail.
-pub fn run_failing(alloc: Global, read: u64, write: u64) -> Result<Told, AllocError> {
+/// Runs the program with these words on a point, where the read and the write with these numbers, counted from 1, fail.
+pub fn run_failing(
+    alloc: Global,
+    line: &[&str],
+    read: u64,
+    write: u64,
+) -> Result<Told, AllocError> {
     let mut source = Bytes::new(alloc);
     source.put(None, POINT)?;
     source.fail_at(read)?;
     let mut out = Paper::new(alloc, 100)?;
     out.fail_at(write)?;
-    run_on_source(alloc, &["cells"], &mut source, out)
+    run_on_source(alloc, line, &mut source, out)
+}
+
+/// Runs the program with these words on the text, where nothing can be written to standard error.
+pub fn run_mute(alloc: Global, line: &[&str], text: &[u8]) -> Result<Told, AllocError> {
+    let mut source = Bytes::new(alloc);
+    source.put(None, text)?;
+    let mut out = Paper::new(alloc, 100)?;
+    let mut err = Paper::new(alloc, 0)?;
+    let status = run_words(alloc, line, &mut source, &mut out, &mut err)?;
+    Ok(Told { status, out, err })
 }
 
 /// Runs the program with these words.

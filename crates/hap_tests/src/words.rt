@@ -3,11 +3,11 @@ use crate::running::expect;
 use std::test::Fail;
 
 const USAGE: &[u8] =
-    b"hap: usage: hap COMMAND [--kind K] [--in NAME] [--mod P] [--sheets N] [--budget B] [--from T] [--index I] [--size N]\n";
+    b"hap: usage: hap COMMAND [--kind K] [--in NAME] [--mod P] [--sheets N] [--budget B] [--from T] [--index I] [--size N] [--component C]\n";
 
 #[test]
 fn other_words_are_usage(rt: HostRuntime) -> Result<(), Fail> {
-    let lines: [&[&str]; 27] = [
+    let lines: [&[&str]; 33] = [
         &[],
         &["cells", "--mod", "2"],
         &["betti", "--mod", "6"],
@@ -34,6 +34,12 @@ fn other_words_are_usage(rt: HostRuntime) -> Result<(), Fail> {
         &["cells", "--kind=cubical", "--kind=cubical"],
         &["verify", "--kind", "boundary"],
         &["cup"],
+        &["verify"],
+        &["migrate", "--in", "x"],
+        &["group", "--kind", "arcs"],
+        &["covers", "--sheets", "8", "--from", "2/1:1"],
+        &["cover", "--sheets", "2", "--index", "1", "--component", "2"],
+        &["report", "--mod", "3", "--sheets", "2"],
         &["cells", "--sheets", "2"],
     ];
     for line in lines {

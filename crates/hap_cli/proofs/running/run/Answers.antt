@@ -1,4 +1,4 @@
-use Rattle.hap_cli.proofs.Ends.{exact_end, usage_end, read_end, write_end}
+use Rattle.hap_cli.proofs.Ends.{exact_end, usage_end, read_fault, write_fault}
 use Rattle.hap_cli.proofs.running.run.Goals as goal
 
 pub returns-clause-ended : goal.returns-clause-ended
@@ -20,10 +20,10 @@ returns-clause-exact g c =
 
 pub returns-clause-read : goal.returns-clause-read
 returns-clause-read g c =
-    read_end _ (g.S.Source.store c.args.source.now) _ _ (g.K.Sink.written c.args.out.now) (g.K.Sink.written c.perform_words-outcome.new.out) c.perform_words-outcome.result c.end_with.result
+    read_fault _ (g.S.Source.store c.args.source.now) _ _ (g.K.Sink.written c.args.out.now) (g.K.Sink.written c.perform_words-outcome.new.out) c.perform_words-outcome.result c.end_with.result
     c.end_with.ensures.status c.perform_words-outcome.ensures.cause
 
 pub returns-clause-write : goal.returns-clause-write
 returns-clause-write g c =
-    write_end _ (g.S.Source.store c.args.source.now) _ _ (g.K.Sink.written c.args.out.now) (g.K.Sink.written c.perform_words-outcome.new.out) c.perform_words-outcome.result c.end_with.result
+    write_fault _ (g.S.Source.store c.args.source.now) _ _ (g.K.Sink.written c.args.out.now) (g.K.Sink.written c.perform_words-outcome.new.out) c.perform_words-outcome.result c.end_with.result
     c.end_with.ensures.status c.perform_words-outcome.ensures.cause

@@ -1,0 +1,82 @@
+-- The space that bytes stand for, stage by stage. A stage gives a value, or the refusal with which the run ends. kind says
+-- how the bytes are to be read.
+--   chain_limit                   the most chains of an order complex
+--   space_of_kind kind value      the space of a value, or its first fault as a space or as an array
+--   space_in kind bytes           first the text is read, and then the space of its value
+--   only_regular stage            after a stage: refused where the space breaks a rule of regularity
+--   only_few stage                after a stage: refused where the order complex has more chains than are taken
+--   regular_in, few_in kind bytes   the space of the bytes after these stages
+--   fault_in stage                the refusal of a stage, if there is one
+--   of_value, of_array, of_text, unless_broken: steps
+use Rattle.std.specs.Prelude.{ℕ, List, nat_lt, if◌then◌else◌}
+use Rattle.std.specs.declared.result.Result.{Result}
+use Rattle.std.specs.declared.result.Result.TheVariants.{Ok, Err}
+use Rattle.std.specs.declared.option.Option.{Option}
+use Rattle.std.specs.declared.option.Option.TheVariants.{Some, None}
+use Rattle.face_poset.specs.Poset.{Layers}
+use Rattle.gap_text.specs.declared.fault.TextFault.{TextFault}
+use Rattle.gap_text.specs.Reading.{value_of}
+use Rattle.gap_text.specs.Value.{Value}
+use Rattle.face_poset.specs.declared.fault.SpaceFault.{SpaceFault}
+use Rattle.face_poset.specs.Reader.{space_of}
+use Rattle.array_values.specs.declared.fault.ArrayFault.{ArrayFault}
+use Rattle.tuple_spaces.specs.Voxels.{cubical_of}
+use Rattle.voxel_spaces.specs.ArcComplements.{arcs_space_of}
+use Rattle.permutahedral_arrays.specs.Permutahedra.{permutahedral_of}
+use Rattle.hap_words.specs.declared.command.Kind.{Kind}
+use Rattle.hap_words.specs.declared.command.Kind.TheVariants.{Boundary, Cubical, Permutahedral, Arcs}
+use Rattle.regular_check.specs.declared.fault.RegularFault.{RegularFault}
+use Rattle.regular_check.specs.Rules.{first_fault}
+use Rattle.order_complex.specs.Chains.{chain_count}
+use Rattle.hap_ends.specs.declared.refusal.Refusal.{Refusal}
+use Rattle.hap_ends.specs.declared.refusal.Refusal.TheVariants.{Text, Space, Array, Irregular, Chains}
+
+abbrev pub chain_limit : ℕ
+chain_limit = 700000
+
+abbrev pub fault_in : {A : Type 0} → Result A Refusal → Option Refusal
+fault_in (Ok value) = None
+fault_in (Err refusal) = Some refusal
+
+-- ---- the space of the bytes, by its kind
+
+abbrev pub of_value : Result Layers SpaceFault → Result Layers Refusal
+of_value (Ok space) = Ok space
+of_value (Err fault) = Err (Space fault)
+
+abbrev pub of_array : Result Layers ArrayFault → Result Layers Refusal
+of_array (Ok space) = Ok space
+of_array (Err fault) = Err (Array fault)
+
+abbrev pub space_of_kind : Kind → Value → Result Layers Refusal
+space_of_kind Boundary value = of_value (space_of value)
+space_of_kind Cubical value = of_array (cubical_of value)
+space_of_kind Permutahedral value = of_array (permutahedral_of value)
+space_of_kind Arcs value = of_array (arcs_space_of value)
+
+abbrev pub of_text : Kind → Result Value TextFault → Result Layers Refusal
+of_text kind (Ok value) = space_of_kind kind value
+of_text kind (Err fault) = Err (Text fault)
+
+abbrev pub space_in : Kind → List ℕ → Result Layers Refusal
+space_in kind bytes = of_text kind (value_of bytes)
+
+-- ---- the stages after it; each refuses what the ones before it let through
+
+abbrev pub unless_broken : Layers → Option RegularFault → Result Layers Refusal
+unless_broken space None = Ok space
+unless_broken space (Some fault) = Err (Irregular fault)
+
+abbrev pub only_regular : Result Layers Refusal → Result Layers Refusal
+only_regular (Ok space) = unless_broken space (first_fault space)
+only_regular (Err refusal) = Err refusal
+
+abbrev pub only_few : Result Layers Refusal → Result Layers Refusal
+only_few (Ok space) = if nat_lt chain_limit (chain_count space) then Err (Chains (chain_count space)) else Ok space
+only_few (Err refusal) = Err refusal
+
+abbrev pub regular_in : Kind → List ℕ → Result Layers Refusal
+regular_in kind bytes = only_regular (space_in kind bytes)
+
+abbrev pub few_in : Kind → List ℕ → Result Layers Refusal
+few_in kind bytes = only_few (regular_in kind bytes)
