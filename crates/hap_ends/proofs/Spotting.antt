@@ -1,8 +1,9 @@
 -- The text of a spot as it is put.
-use Rattle.std.proofs.Common.{◌≡◌, ℕ, ◌+◌, ◌==◌, Bool, true, false, List, [], ◌∷◌, ◌++◌, codes, map, take, drop, get_or, length, ◌<◌, refl, sym, ap, ◌∙◌, append_assoc, subst, inl, inr, arith, ◌≤◌}
+use Rattle.std.proofs.Common.{◌≡◌, ℕ, suc, ◌+◌, ◌==◌, Bool, true, false, List, [], ◌∷◌, ◌++◌, codes, map, take, drop, get_or, length, ◌<◌, refl, sym, ap, ◌∙◌, append_assoc, subst, inl, inr, arith, ◌≤◌, ◌-◌}
 use Rattle.std.specs.Prelude.{decimal, if◌then◌else◌}
 use Rattle.std.specs.List.{All, flat_map}
-use Rattle.std.proofs.lemmas.List.{append-nil, take-append-drop, take_more, drop_more}
+use Rattle.std.proofs.lemmas.List.{append-nil, take-append-drop, take_more, drop_more, take_all}
+use Rattle.std.proofs.lemmas.List.Elements.{All-nil}
 use Rattle.std.proofs.lemmas.List.Concat.{flat_map-append}
 use Rattle.sheet_tables.specs.Positions.{cells_text, position_text, IsPosition}
 use Rattle.sheet_tables.specs.Spots.{spot_text, Mark}
@@ -27,6 +28,23 @@ spent_parts spot = at (spot.component == 1)
     at true = refl
     at false = ap (λ (l : List ℕ). codes "hap: spent " ++ l) (append_assoc number (47 ∷ []) (place ++ codes "\n") ∙ sym (append_assoc number (47 ∷ place) (codes "\n")))
 
+-- the same of a line that was put in three parts
+pub line_parts : (spot : Mark) (component : ℕ) (place : List ℕ) → component ≡ spot.component → place ≡ position_text spot.sheets spot.cells
+    → (spent_front component ++ place) ++ codes "\n" ≡ spent_line spot
+line_parts spot n place e f =
+    append_assoc (spent_front n) place (codes "\n")
+    ∙ (ap (λ m. spent_front m ++ (place ++ codes "\n")) e ∙ (ap (λ (l : List ℕ). spent_front spot.component ++ (l ++ codes "\n")) f ∙ spent_parts spot))
+
+-- the first of some cells and those behind it
+pub cells_at : (cells : List ℕ) → 1 ≤ length cells → (48 + get_or cells 0 0) ∷ later_cells (take (length cells - 1) (drop 1 cells)) ≡ cells_text cells
+cells_at [] some = absurd (omega (arith, some))
+cells_at (c ∷ cs) some = ap (λ (l : List ℕ). (48 + c) ∷ later_cells l) (take_all (length (c ∷ cs) - 1) cs (omega arith)) ∙ sym (cells_put c cs)
+
+-- those behind the first are digits where all are
+pub few_at : (cells : List ℕ) → All (λ c. c ≤ 8) cells → All (λ c. c ≤ 8) (take (length cells - 1) (drop 1 cells))
+few_at [] h = h
+few_at (c ∷ cs) h = subst (All (λ c. c ≤ 8)) (sym (take_all (length (c ∷ cs) - 1) cs (omega arith))) (λ k d l. h (suc k) d (omega (arith, l)))
+
 -- the later cells up to an index, and one more
 pub later-more : (cells : List ℕ) (i d : ℕ) → i < length cells → later_cells (take i cells) ++ (44 ∷ (48 + get_or cells i d) ∷ []) ≡ later_cells (take (i + 1) cells)
 later-more cells i d l =
@@ -47,9 +65,8 @@ sheets_few sheets cells (inl start) = omega (arith, start.0)
 sheets_few sheets cells (inr proper) = proper.most_sheets
 
 all_few : (cells : List ℕ) → All (λ c. (1 ≤ c) × (c ≤ 8)) cells → All (λ c. c ≤ 8) cells
-all_few [] h = h
-all_few (c ∷ cs) h = (h.0.1, all_few cs h.1)
+all_few cells h = λ k d l. (h k d l).1
 
 pub cells_few : (sheets : ℕ) (cells : List ℕ) → IsPosition sheets cells → All (λ c. c ≤ 8) cells
-cells_few sheets cells (inl start) = subst (All (λ c. c ≤ 8)) (sym start.1) tt
+cells_few sheets cells (inl start) = subst (All (λ c. c ≤ 8)) (sym start.1) (All-nil (λ c. c ≤ 8))
 cells_few sheets cells (inr proper) = all_few cells proper.within
