@@ -34,8 +34,8 @@ too_long asked bytes long = ap (λ b. if b then Some (TooLong (limit_of asked)) 
 pub answered_end : {T E : Type 0} (asked : Asked) (bytes : List ℕ) (old new : Option (List ℕ)) (before now : ℕ) (answer : Answer) (r : Result T E)
     → length bytes ≤ limit_of asked → Gives asked bytes (Ok answer) → Writes old new (text_of answer) r → HasCause before now r
     → EndsOn asked bytes (Rose before now) old new (written_outcome r)
-answered_end asked bytes old new before now answer (Ok x) short g w h = (refl, text_of answer, (within asked bytes short ∙ g.0, g.1), w.whole)
-answered_end asked bytes old new before now answer (Err e) short g w h = (h.failed, text_of answer, (within asked bytes short ∙ g.0, g.1), w.part)
+answered_end asked bytes old new before now answer (Ok x) short g w h = (refl, record { text = text_of answer; answers = (within asked bytes short ∙ g.0, g.1); appended = w.whole })
+answered_end asked bytes old new before now answer (Err e) short g w h = (h.failed, record { text = text_of answer; answers = (within asked bytes short ∙ g.0, g.1); count = w.part.0; less = w.part.1; appended = w.part.2 })
 
 -- no answer is given
 pub refused_end : (asked : Asked) (bytes : List ℕ) (write : Type 0) (old : Option (List ℕ)) (outcome : Outcome)
@@ -53,19 +53,19 @@ refused_end asked bytes write old WriteFault short g k = absurd g
 -- it was read
 pub read_end : (asked : Asked) (store : Option Store) (read write : Type 0) (old new : Option (List ℕ)) (bytes : List ℕ) (outcome : Outcome)
     → IsRead asked store bytes → EndsOn asked bytes write old new outcome → IsEnd asked store read write old new outcome
-read_end asked store read write old new bytes Done h e = (bytes, h.0, e)
-read_end asked store read write old new bytes (Spent spot) h e = (bytes, h.0, e)
+read_end asked store read write old new bytes Done h e = record { bytes = bytes; has = h.0; holds = e }
+read_end asked store read write old new bytes (Spent spot) h e = record { bytes = bytes; has = h.0; holds = e }
 read_end asked store read write old new bytes Usage h e = absurd e
-read_end asked store read write old new bytes (Refused cause) h e = (bytes, h.0, e)
+read_end asked store read write old new bytes (Refused cause) h e = record { bytes = bytes; has = h.0; holds = e }
 read_end asked store read write old new bytes ReadFault h e = absurd e
-read_end asked store read write old new bytes WriteFault h e = (bytes, h.0, e)
+read_end asked store read write old new bytes WriteFault h e = record { bytes = bytes; has = h.0; holds = e }
 read_end asked store read write old new bytes Memory h e = e
 
 -- it was not
 pub unread_end : (asked : Asked) (store : Option Store) (read write : Type 0) (old : Option (List ℕ)) (outcome : Outcome)
     → IsUnread asked store read outcome → Keeps old old → IsEnd asked store read write old old outcome
 unread_end asked store read write old (Refused cause) h k =
-    (h.1.0, h.1.1.0, (subst (λ c. refusal asked h.1.0 ≡ Some (bare c)) (sym h.0) (too_long asked h.1.0 h.1.1.1), k))
+    record { bytes = h.1.bytes; has = h.1.has; holds = (subst (λ c. refusal asked h.1.bytes ≡ Some (bare c)) (sym h.0) (too_long asked h.1.bytes h.1.holds), k) }
 unread_end asked store read write old ReadFault h k = (h, k)
 unread_end asked store read write old Memory h k = k
 unread_end asked store read write old Done h k = absurd h
@@ -101,7 +101,7 @@ unread_quiet asked store read WriteFault h = absurd h
 
 -- the steps on the bytes that were read
 pub read_steps : (asked : Asked) (store : Option Store) (bytes : List ℕ) (old new : ℕ) → IsRead asked store bytes → Counts asked bytes old new → CountsBy asked store old new
-read_steps asked store bytes old new h c = inr (bytes, h.0, c)
+read_steps asked store bytes old new h c = inr (record { bytes = bytes; has = h.0; holds = c })
 
 -- ---- from there to the words
 
@@ -121,7 +121,7 @@ memory_end (Some asked) store read write old h = h
 -- what holds of the bytes that the source has holds of those that it tells
 told : (store : Option Store) (name : Option (List ℕ)) (P Q : List ℕ → Type 0) → OnNamed name store P → ((bytes : List ℕ) → P bytes → Q bytes) → IfSome (bytes_under store name) Q
 told None name P Q h f = tt
-told (Some store) name P Q h f = subst (λ o. IfSome o Q) (sym h.1.0) (f h.0 h.1.1)
+told (Some store) name P Q h f = subst (λ o. IfSome o Q) (sym h.has) (f h.bytes h.holds)
 
 always : (b : Option (List ℕ)) (Q : List ℕ → Type 0) → ((bytes : List ℕ) → Q bytes) → IfSome b Q
 always None Q f = tt
@@ -139,14 +139,14 @@ exact_end (Some asked) store read write old new outcome status e h = at outcome 
 
     at : (outcome : Outcome) → status ≡ status_of outcome → IsEnd asked store read write old new outcome → IfSome (bytes_under (told_store asked store) (input_name asked)) Told
     at Done e h = told (told_store asked store) (input_name asked) (λ bytes. EndsOn asked bytes write old new Done) Told h
-        (λ bytes p r w. inl (e ∙ sym (ap (λ c. status_for c (ending asked bytes)) p.1.1.0 ∙ ap (status_for None) p.0)))
+        (λ bytes p r w. inl (e ∙ sym (ap (λ c. status_for c (ending asked bytes)) p.1.answers.0 ∙ ap (status_for None) p.0)))
     at (Spent spot) e h = told (told_store asked store) (input_name asked) (λ bytes. EndsOn asked bytes write old new (Spent spot)) Told h
-        (λ bytes p r w. inl (e ∙ sym (ap (λ c. status_for c (ending asked bytes)) p.1.1.0 ∙ ap (status_for None) p.0)))
+        (λ bytes p r w. inl (e ∙ sym (ap (λ c. status_for c (ending asked bytes)) p.1.answers.0 ∙ ap (status_for None) p.0)))
     at (Refused cause) e h = told (told_store asked store) (input_name asked) (λ bytes. EndsOn asked bytes write old new (Refused cause)) Told h
         (λ bytes p r w. inl (e ∙ sym (ap (λ c. status_for c (ending asked bytes)) p.0 ∙ bare_status cause)))
-    at Usage e h = absurd h.1.1
+    at Usage e h = absurd h.holds
     at ReadFault e h = always (bytes_under (told_store asked store) (input_name asked)) Told (λ bytes r w. absurd (r h.0))
-    at WriteFault e h = always (bytes_under (told_store asked store) (input_name asked)) Told (λ bytes r w. absurd (w h.1.1.0))
+    at WriteFault e h = always (bytes_under (told_store asked store) (input_name asked)) Told (λ bytes r w. absurd (w h.holds.0))
     at Memory e h = always (bytes_under (told_store asked store) (input_name asked)) Told (λ bytes r w. inr e)
 
 -- where the words are refused
@@ -166,7 +166,7 @@ read_fault (Some asked) store read write old new outcome status e h s = at outco
     at : (outcome : Outcome) → 7 ≡ status_of outcome → IsEnd asked store read write old new outcome → read
     at Done e h = absurd (omega (arith, e))
     at (Spent spot) e h = absurd (omega (arith, e))
-    at Usage e h = absurd h.1.1
+    at Usage e h = absurd h.holds
     at (Refused cause) e h = absurd (omega (arith, e, (refused_range cause).1))
     at ReadFault e h = h.0
     at WriteFault e h = absurd (omega (arith, e))
@@ -181,10 +181,10 @@ write_fault (Some asked) store read write old new outcome status e h s = at outc
     at : (outcome : Outcome) → 8 ≡ status_of outcome → IsEnd asked store read write old new outcome → write
     at Done e h = absurd (omega (arith, e))
     at (Spent spot) e h = absurd (omega (arith, e))
-    at Usage e h = absurd h.1.1
+    at Usage e h = absurd h.holds
     at (Refused cause) e h = absurd (omega (arith, e, (refused_range cause).1))
     at ReadFault e h = absurd (omega (arith, e))
-    at WriteFault e h = h.1.1.0
+    at WriteFault e h = h.holds.0
     at Memory e h = absurd (omega (arith, e))
 
 -- only a run that is told by 0, 6 or 8 may have written
@@ -205,7 +205,7 @@ cover_quiet (Some asked) store read write old new outcome status e h a s = at ou
   where
     at : (outcome : Outcome) → 6 ≡ status_of outcome → IsEnd asked store read write old new outcome → may_write outcome ≡ false
     at Done e h = absurd (omega (arith, e))
-    at (Spent spot) e h = let bad : None ≡ Some (spot_of spot) = h.1.1.0 in absurd cc
+    at (Spent spot) e h = let bad : None ≡ Some (spot_of spot) = h.holds.0 in absurd cc
     at Usage e h = refl
     at (Refused cause) e h = refl
     at ReadFault e h = refl

@@ -5,7 +5,7 @@
 --   status_for refusal ending    the status where nothing fails outside: that of the refusal, else 6 at a spot, else 0
 --   may_write outcome            a run that ends so may have written
 --   asks_cover words             the words ask for `cover`, which writes nothing where its budget is spent
---   Wrote asked bytes old new    an answer on these bytes was appended
+--   Wrote asked bytes old new    an answer on these bytes was appended; WrotePart: less than all of it
 --   EndsOn asked bytes write old new outcome        why the command ends so on these bytes, and what was then appended
 --   IsEnd asked store read write old new outcome    why the command ends so, on its input
 --   EndsBy words store read write old new outcome   the same of what the words ask for: where they are refused, that is the
@@ -47,15 +47,23 @@ asks_cover other = false
 
 -- ---- the ends
 
-abbrev pub Wrote : Asked → List ℕ → (old new : Option (List ℕ)) → Type 0
-Wrote asked bytes old new = (text : List ℕ) × Answers asked bytes text × Appends old new text
+pub record Wrote (asked : Asked) (bytes : List ℕ) (old new : Option (List ℕ)) : Type 0 where
+  pub text : List ℕ
+  pub answers : Answers asked bytes text
+  pub appended : Appends old new text
+
+pub record WrotePart (asked : Asked) (bytes : List ℕ) (old new : Option (List ℕ)) : Type 0 where
+  pub text : List ℕ
+  pub answers : Answers asked bytes text
+  pub count : ℕ
+  pub less : count < length text
+  pub appended : Appends old new (take count text)
 
 abbrev pub EndsOn : Asked → List ℕ → (write : Type 0) → (old new : Option (List ℕ)) → Outcome → Type 0
 EndsOn asked bytes write old new Done = (ending asked bytes ≡ None) × Wrote asked bytes old new
 EndsOn asked bytes write old new (Spent spot) = (ending asked bytes ≡ Some (spot_of spot)) × Wrote asked bytes old new
 EndsOn asked bytes write old new (Refused cause) = (refusal asked bytes ≡ Some (bare cause)) × Keeps old new
-EndsOn asked bytes write old new WriteFault =
-    write × (text : List ℕ) × Answers asked bytes text × (n : ℕ) × (n < length text) × Appends old new (take n text)
+EndsOn asked bytes write old new WriteFault = write × WrotePart asked bytes old new
 EndsOn asked bytes write old new Memory = Keeps old new
 EndsOn asked bytes write old new other = ⊥
 

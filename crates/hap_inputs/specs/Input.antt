@@ -58,8 +58,10 @@ abbrev pub Has : Option Store → Option (List ℕ) → List ℕ → Type 0
 Has None name bytes = ⊤
 Has (Some store) name bytes = store name ≡ Some bytes
 
-abbrev pub OnNamed : Option (List ℕ) → Option Store → (List ℕ → Type 0) → Type 0
-OnNamed name store P = (bytes : List ℕ) × Has store name bytes × P bytes
+pub record OnNamed (name : Option (List ℕ)) (store : Option Store) (P : List ℕ → Type 0) : Type 0 where
+  pub bytes : List ℕ
+  pub has : Has store name bytes
+  pub holds : P bytes
 
 abbrev pub OnInput : Asked → Option Store → (List ℕ → Type 0) → Type 0
 OnInput asked store P = OnNamed (input_name asked) (told_store asked store) P
