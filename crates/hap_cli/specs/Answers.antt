@@ -11,7 +11,8 @@
 -- and for the code, whose answers are values
 --   text_of answer              the text of an answer
 --   Gives asked bytes result    an answer whose text is one of the command, or the cause of a refusal, or want of memory
---   GivesFew space P result     a value of which P holds, of a space with few enough chains; or its refusal; or want of memory
+--   GivesIf stage space P result   a value of which P holds, where the stage lets the space through; or its refusal; or want
+--                               of memory
 --   IsSummary size modulus s    it tells of the 3-torus of the size
 --   summary_text summary        the text of it
 use Rattle.std.specs.Prelude.{◌≡◌, ℕ, List, ◌++◌, codes, decimal, length, ⊤}
@@ -33,7 +34,8 @@ use Rattle.hap_ends.specs.declared.outcome.Outcome.{Outcome}
 use Rattle.hap_ends.specs.declared.outcome.Outcome.TheVariants.{Refused, Memory}
 use Rattle.hap_ends.specs.Refusals.{bare}
 use Rattle.hap_ends.specs.Outcomes.{Fails}
-use Rattle.hap_inputs.specs.Spaces.{space_in, regular_in, only_few}
+use Rattle.hap_ends.specs.declared.refusal.Refusal.{Refusal}
+use Rattle.hap_inputs.specs.Spaces.{space_in, regular_in}
 use Rattle.hap_cli.specs.declared.answer.Answer.{Answer}
 use Rattle.hap_cli.specs.declared.answer.Answer.TheVariants as answer
 use Rattle.hap_cli.specs.declared.make.Summary.{Summary}
@@ -107,9 +109,9 @@ Gives asked bytes (Err (Refused refusal)) = cause asked bytes ≡ Some (bare ref
 Gives asked bytes (Err Memory) = ⊤
 Gives asked bytes (Err other) = ⊥
 
-abbrev pub GivesFew : {T : Type 0} → Layers → (T → Type 0) → Result T Outcome → Type 0
-GivesFew space P (Ok value) = (only_few (Ok space) ≡ Ok space) × P value
-GivesFew space P (Err outcome) = Fails (only_few (Ok space)) outcome
+abbrev pub GivesIf : {T : Type 0} → (stage : Result Layers Refusal) → Layers → (T → Type 0) → Result T Outcome → Type 0
+GivesIf stage space P (Ok value) = (stage ≡ Ok space) × P value
+GivesIf stage space P (Err outcome) = Fails stage outcome
 
 abbrev pub IsSummary : (size modulus : ℕ) → Summary → Type 0
 IsSummary size modulus s =

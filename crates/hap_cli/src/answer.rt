@@ -37,7 +37,7 @@ pub enum Answer {
 }
 
 /// What the command answers on the bytes of its input, or how the run ends without an answer.
-pub fn answer<L: Ledger>(
+pub fn answer_to<L: Ledger>(
     alloc: Global,
     command: &Command,
     bytes: &[u8],

@@ -6,8 +6,8 @@ ghost use Rattle.order_complex.specs.Numbers.{AreBetti};
 ghost use Rattle.hap_outside.specs.Causes.{HasCause};
 ghost use Rattle.hap_outside.specs.Writes.{Writes};
 ghost use Rattle.hap_words.specs.Asked.{betti, field_of};
-ghost use Rattle.hap_inputs.specs.Spaces.{only_few};
-ghost use Rattle.hap_cli.specs.Answers.{betti_text, Gives, GivesFew};
+ghost use Rattle.hap_inputs.specs.Spaces.{only_few, only_regular};
+ghost use Rattle.hap_cli.specs.Answers.{betti_text, Gives, GivesIf};
 ghost use Rattle.hap_cli.specs.Counting.{Counts, entries_of};
 
 use crate::answer::Answer;
@@ -38,9 +38,23 @@ pub fn answer_betti<L: Ledger>(
     ensures steps { Counts (betti (field_of options.now)) bytes.now steps.old steps.new }
 {
     let space = space_of_bytes(alloc, options.input.kind, bytes)?;
-    let regular = regular_space(alloc, &space)?;
-    let numbers = few_betti(alloc, regular.space(), options.modulus, steps)?;
+    let numbers = regular_betti(alloc, &space, options.modulus, steps)?;
     Ok(Answer::Betti(numbers))
+}
+
+// The Betti numbers of the order complex of the space, or how the run ends where it is not regular or has too many chains.
+fn regular_betti<L: Ledger>(
+    alloc: Global,
+    space: &Space,
+    modulus: u8,
+    steps: &mut Steps<L>,
+) -> Result<Betti, Outcome>
+    requires { is_modulus modulus ≡ true }
+    ensures numbers { GivesIf (only_few (only_regular (Ok space.now))) space.now (AreBetti (mod_ops modulus) space.now) result }
+    ensures steps { steps.new ≤ steps.old + entries_of (only_few (only_regular (Ok space.now))) }
+{
+    let regular = regular_space(alloc, space)?;
+    few_betti(alloc, regular.space(), modulus, steps)
 }
 
 // The Betti numbers of the order complex of the space, or how the run ends where it has too many chains.
@@ -51,7 +65,7 @@ fn few_betti<L: Ledger>(
     steps: &mut Steps<L>,
 ) -> Result<Betti, Outcome>
     requires { is_modulus modulus ≡ true }
-    ensures numbers { GivesFew space.now (AreBetti (mod_ops modulus) space.now) result }
+    ensures numbers { GivesIf (only_few (Ok space.now)) space.now (AreBetti (mod_ops modulus) space.now) result }
     ensures steps { steps.new ≤ steps.old + entries_of (only_few (Ok space.now)) }
 {
     Ok(betti_of(alloc, space, modulus, MOST_CHAINS, steps)?)

@@ -1,9 +1,11 @@
 // The command `check`.
-ghost use Rattle.std.specs.Prelude.{◌≡◌, ◌≤◌, length};
+ghost use Rattle.std.specs.Prelude.{◌≡◌, ◌≤◌, length, Ok};
 ghost use Rattle.hap_outside.specs.Causes.{HasCause};
 ghost use Rattle.hap_outside.specs.Writes.{Writes};
 ghost use Rattle.hap_words.specs.Asked.{check, input_of};
-ghost use Rattle.hap_cli.specs.Answers.{components_text, Gives};
+ghost use Rattle.regular_check.specs.Components.{component_count};
+ghost use Rattle.hap_inputs.specs.Spaces.{only_regular};
+ghost use Rattle.hap_cli.specs.Answers.{components_text, Gives, GivesIf};
 
 use crate::answer::Answer;
 use crate::cells::write_cells;
@@ -24,9 +26,17 @@ pub fn answer_check(
     ensures { Gives (check (input_of options.now)) bytes.now result }
 {
     let space = space_of_bytes(alloc, options.input.kind, bytes)?;
-    let regular = regular_space(alloc, &space)?;
-    let components = regular.components(alloc)?.count();
+    let components = count_components(alloc, &space)?;
     Ok(Answer::Check(space, components))
+}
+
+// How many components the space has, or how the run ends where it is not regular.
+fn count_components(alloc: Global, space: &Space) -> Result<u32, Outcome>
+    ensures { GivesIf (only_regular (Ok space.now)) space.now (λ n. n ≡ component_count space.now) result }
+{
+    let regular = regular_space(alloc, space)?;
+    let components = regular.components(alloc)?;
+    Ok(components.count())
 }
 
 /// Writes the cells of a regular space, and how many components it has.

@@ -1,5 +1,5 @@
 // The command `make`.
-ghost use Rattle.std.specs.Prelude.{◌≡◌, ◌≤◌, ◌+◌, ◌++◌, ◌×◌, true, Ok};
+ghost use Rattle.std.specs.Prelude.{◌≡◌, ◌≤◌, ◌+◌, ◌++◌, true, Ok};
 ghost use Rattle.small_field.specs.Modulus.{is_modulus};
 ghost use Rattle.tuple_spaces.specs.Torus.{torus_of};
 ghost use Rattle.hap_outside.specs.Causes.{HasCause};
@@ -9,7 +9,7 @@ ghost use Rattle.hap_words.specs.Ranges.{is_in_range};
 ghost use Rattle.small_field.specs.Prime.{mod_ops};
 ghost use Rattle.order_complex.specs.Numbers.{AreBetti};
 ghost use Rattle.hap_inputs.specs.Spaces.{only_few};
-ghost use Rattle.hap_cli.specs.Answers.{torus_text, cells_text, chains_text, betti_text, summary_text, chain_numbers, Gives, GivesFew, IsSummary};
+ghost use Rattle.hap_cli.specs.Answers.{torus_text, cells_text, chains_text, betti_text, summary_text, chain_numbers, Gives, GivesIf, IsSummary};
 ghost use Rattle.hap_cli.specs.Counting.{Counts, entries_of};
 
 use crate::answer::Answer;
@@ -58,12 +58,12 @@ pub fn answer_make<L: Ledger>(
     let space = torus(alloc, options.size)?;
     match options.modulus {
         None => Ok(Answer::Boundaries(space)),
-        Some(modulus) => Ok(Answer::Summary(summary(alloc, options.size, modulus, space, steps)?)),
+        Some(modulus) => Ok(Answer::Summary(summarize(alloc, options.size, modulus, space, steps)?)),
     }
 }
 
 // What is told of the 3-torus of a size, or how the run ends where it has too many chains.
-fn summary<L: Ledger>(
+fn summarize<L: Ledger>(
     alloc: Global,
     size: u32,
     modulus: u8,
@@ -72,7 +72,7 @@ fn summary<L: Ledger>(
 ) -> Result<Summary, Outcome>
     requires space { space ≡ torus_of size }
     requires modulus { is_modulus modulus ≡ true }
-    ensures summary { GivesFew (torus_of size) (IsSummary size modulus) result }
+    ensures summary { GivesIf (only_few (Ok (torus_of size))) (torus_of size) (IsSummary size modulus) result }
     ensures steps { steps.new ≤ steps.old + entries_of (only_few (Ok (torus_of size))) }
 {
     let (chains, numbers) = chains_and_betti(alloc, &space, modulus, steps)?;
@@ -92,7 +92,7 @@ fn chains_and_betti<L: Ledger>(
     steps: &mut Steps<L>,
 ) -> Result<(ChainNumbers, Betti), Outcome>
     requires { is_modulus modulus ≡ true }
-    ensures numbers { GivesFew space.now (λ told. (told.0 ≡ chain_numbers space.now) × AreBetti (mod_ops modulus) space.now told.1) result }
+    ensures numbers { GivesIf (only_few (Ok space.now)) space.now (λ told. (told.0 ≡ chain_numbers space.now) × AreBetti (mod_ops modulus) space.now told.1) result }
     ensures steps { steps.new ≤ steps.old + entries_of (only_few (Ok space.now)) }
 {
     let chains = Chains::new(alloc, space, MOST_CHAINS)?;

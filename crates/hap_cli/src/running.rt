@@ -13,7 +13,7 @@ ghost use Rattle.hap_cli.specs.Refusals.{refusal};
 ghost use Rattle.hap_cli.specs.Counting.{Counts, CountsBy, CountsIf};
 ghost use Rattle.hap_cli.specs.Ends.{ending, status_for, asks_cover, may_write, EndsOn, IsEnd, EndsBy};
 
-use crate::answer::{answer, write_answer};
+use crate::answer::{answer_to, write_answer};
 use hap_ends::{Outcome, end_with, written};
 use hap_inputs::read_input;
 use hap_outside::{Sink, Source};
@@ -167,7 +167,7 @@ fn perform_on<K: Sink, L: Ledger>(
     ensures nothing { may_write result ≡ false → out.new ≡ out.old }
     ensures steps { Counts (asked_of command.now) bytes.now steps.old steps.new }
 {
-    match answer(alloc, command, bytes, steps) {
+    match answer_to(alloc, command, bytes, steps) {
         Ok(answer) => {
             let answered = write_answer(out, &answer);
             drop(answer);
