@@ -3,7 +3,8 @@ ghost use Rattle.std.specs.Prelude.{◌≡◌, ◌&&◌, true, codes, map, strin
 ghost use Rattle.std.specs.declared.option.Option.TheVariants.{Some, None};
 ghost use Rattle.clap.specs.Words.{rows_of, found_of, first_of};
 ghost use Rattle.hap_words.specs.Reads.{Reads};
-ghost use Rattle.hap_words.specs.Asked.{asked_of, source_of, input_of, field_of, name_of, covers_of, cover_of, report_of, make_of, spot_of};
+ghost use Rattle.hap_words.specs.Asked.{asked_of, source_of, spot_of, input_of, field_of, name_of};
+ghost use Rattle.hap_words.specs.Asked.{covers_of, cover_of, report_of, make_of};
 ghost use Rattle.hap_words.specs.Ranges.{is_in_range};
 ghost use Rattle.hap_words.specs.Table as table;
 
