@@ -25,6 +25,10 @@ betti-three : asked (codes "betti" ∷ codes "--kind" ∷ codes "arcs" ∷ codes
 unfolding clap_on_literals hap_app
 betti-three = refl
 
+betti-nine : asked (codes "betti" ∷ codes "--mod" ∷ codes "9" ∷ []) ≡ Some (betti (record { source = plain; modulus = 9 }))
+unfolding clap_on_literals hap_app
+betti-nine = refl
+
 covers-from : asked (codes "covers" ∷ codes "--sheets" ∷ codes "8" ∷ codes "--from" ∷ codes "3/2:2,1" ∷ []) ≡ Some (covers (record { source = plain; sheets = 8; budget = 10000000; from = (3, 2, 2 ∷ 1 ∷ []) }))
 unfolding clap_on_literals hap_app
 covers-from = refl
@@ -80,6 +84,7 @@ no-value : all_refused (
     ∷ (codes "make" ∷ codes "--size" ∷ codes "20" ∷ [])
     ∷ (codes "betti" ∷ codes "--mod" ∷ codes "6" ∷ [])
     ∷ (codes "betti" ∷ codes "--mod" ∷ codes "8" ∷ [])
+    ∷ (codes "betti" ∷ codes "--mod" ∷ codes "17" ∷ [])
     ∷ (codes "covers" ∷ [])
     ∷ (codes "covers" ∷ codes "--sheets" ∷ codes "0" ∷ [])
     ∷ (codes "covers" ∷ codes "--sheets" ∷ codes "9" ∷ [])

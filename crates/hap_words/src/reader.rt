@@ -265,8 +265,12 @@ fn given_modulus(text: &str) -> Option<u8>
     match read_number(text) {
         Some(2) => Some(2),
         Some(3) => Some(3),
+        Some(4) => Some(4),
         Some(5) => Some(5),
         Some(7) => Some(7),
+        Some(9) => Some(9),
+        Some(11) => Some(11),
+        Some(13) => Some(13),
         _ => None,
     }
 }
