@@ -1,21 +1,20 @@
 // Betti numbers by the ranks of the coboundaries.
 ghost use Rattle.std.specs.Prelude.{◌≡◌, ◌≤◌, ◌<◌, ◌+◌, IsTrue, IfOk, IfErr, OnOk};
-ghost use Rattle.small_field.specs.Prime.{mod_ops};
 ghost use Rattle.order_complex.specs.Chains.{chain_count};
 ghost use Rattle.order_complex.specs.Complex.{IsRefused};
 ghost use Rattle.order_complex.specs.Numbers.{AreBetti, coboundary_entries};
-ghost use Rattle.small_field.specs.Modulus.{is_modulus};
+ghost use Rattle.small_field.specs.Modulus.{field_of, is_modulus};
 
 use crate::ranks::coboundary_rank;
 use face_poset::Space;
 use linear_laws::basis_by_ranks;
 use order_complex::{Betti, ChainFault, Chains, betti_by_ranks};
-use small_field::{Field, Gfp};
+use small_field::{Field, Gf4, Gf9, Gfp};
 use std::alloc::{AllocError, Global};
 use std::sync::ledger::Ledger;
 use step_count::Steps;
 
-/// The Betti numbers of a space modulo 2, 3, 5 or 7. A refusal comes where there are more chains than the limit,
+/// The Betti numbers of a space, with coefficients in the field with `modulus` elements. A refusal comes where there are more chains than the limit,
 /// carries their number, and takes no step.
 pub fn betti_of<L: Ledger>(
     alloc: Global,
@@ -25,7 +24,7 @@ pub fn betti_of<L: Ledger>(
     steps: &mut Steps<L>,
 ) -> Result<Betti, ChainFault>
     requires modulus { IsTrue (is_modulus modulus) }
-    ensures betti { IfOk result (AreBetti (mod_ops modulus) space.now) }
+    ensures betti { IfOk result (AreBetti (field_of modulus) space.now) }
     ensures within { OnOk result (chain_count space.now ≤ limit) }
     ensures refused { IfErr result (IsRefused (chain_count space.now) limit) }
     ensures steps { steps.new ≤ steps.old + coboundary_entries space.now }
@@ -38,7 +37,7 @@ pub fn betti_of<L: Ledger>(
     }
 }
 
-/// The Betti numbers modulo 2, 3, 5 or 7.
+/// The Betti numbers, with coefficients in the field with `modulus` elements. This is where a modulus picks a field.
 pub fn betti_modulo<L: Ledger>(
     alloc: Global,
     chains: &Chains<'_>,
@@ -46,14 +45,18 @@ pub fn betti_modulo<L: Ledger>(
     steps: &mut Steps<L>,
 ) -> Result<Betti, AllocError>
     requires modulus { IsTrue (is_modulus modulus) }
-    ensures betti { IfOk result (AreBetti (mod_ops modulus) chains.now) }
+    ensures betti { IfOk result (AreBetti (field_of modulus) chains.now) }
     ensures steps { steps.new ≤ steps.old + coboundary_entries chains.now }
 {
     match modulus {
         2 => betti_numbers::<Gfp<2>, L>(alloc, chains, steps),
         3 => betti_numbers::<Gfp<3>, L>(alloc, chains, steps),
+        4 => betti_numbers::<Gf4, L>(alloc, chains, steps),
         5 => betti_numbers::<Gfp<5>, L>(alloc, chains, steps),
-        _ => betti_numbers::<Gfp<7>, L>(alloc, chains, steps),
+        7 => betti_numbers::<Gfp<7>, L>(alloc, chains, steps),
+        9 => betti_numbers::<Gf9, L>(alloc, chains, steps),
+        11 => betti_numbers::<Gfp<11>, L>(alloc, chains, steps),
+        _ => betti_numbers::<Gfp<13>, L>(alloc, chains, steps),
     }
 }
 

@@ -1,3 +1,4 @@
 pub mod CallerLemmas
 mod Laws
 mod Pushed
+mod SmallFields
