@@ -3,19 +3,20 @@ ghost use Rattle.std.specs.Prelude.{◌≡◌, ◌≤◌, ◌<◌, ◌+◌, IsTr
 ghost use Rattle.order_complex.specs.Chains.{chain_count};
 ghost use Rattle.order_complex.specs.Complex.{IsRefused};
 ghost use Rattle.order_complex.specs.Numbers.{AreBetti, coboundary_entries};
+ghost use Rattle.plain_betti.specs.Numbers.{GivesBetti};
 ghost use Rattle.small_field.specs.Modulus.{field_of, is_modulus};
 
 use crate::ranks::coboundary_rank;
 use face_poset::Space;
 use linear_laws::basis_by_ranks;
 use order_complex::{Betti, ChainFault, Chains, betti_by_ranks};
-use small_field::{Field, Gf4, Gf9, Gfp};
+use small_field::{Field, OverField, over_field};
 use std::alloc::{AllocError, Global};
 use std::sync::ledger::Ledger;
 use step_count::Steps;
 
-/// The Betti numbers of a space, with coefficients in the field with `modulus` elements. A refusal comes where there are more chains than the limit,
-/// carries their number, and takes no step.
+/// The Betti numbers of a space, with coefficients in the field with `modulus` elements. A refusal comes where there are
+/// more chains than the limit, carries their number, and takes no step.
 pub fn betti_of<L: Ledger>(
     alloc: Global,
     space: &Space,
@@ -37,7 +38,7 @@ pub fn betti_of<L: Ledger>(
     }
 }
 
-/// The Betti numbers, with coefficients in the field with `modulus` elements. This is where a modulus picks a field.
+/// The Betti numbers, with coefficients in the field with `modulus` elements.
 pub fn betti_modulo<L: Ledger>(
     alloc: Global,
     chains: &Chains<'_>,
@@ -48,15 +49,29 @@ pub fn betti_modulo<L: Ledger>(
     ensures betti { IfOk result (AreBetti (field_of modulus) chains.now) }
     ensures steps { steps.new ≤ steps.old + coboundary_entries chains.now }
 {
-    match modulus {
-        2 => betti_numbers::<Gfp<2>, L>(alloc, chains, steps),
-        3 => betti_numbers::<Gfp<3>, L>(alloc, chains, steps),
-        4 => betti_numbers::<Gf4, L>(alloc, chains, steps),
-        5 => betti_numbers::<Gfp<5>, L>(alloc, chains, steps),
-        7 => betti_numbers::<Gfp<7>, L>(alloc, chains, steps),
-        9 => betti_numbers::<Gf9, L>(alloc, chains, steps),
-        11 => betti_numbers::<Gfp<11>, L>(alloc, chains, steps),
-        _ => betti_numbers::<Gfp<13>, L>(alloc, chains, steps),
+    let mut work = BettiWork {
+        alloc,
+        chains,
+        steps,
+    };
+    over_field(modulus, &mut work)
+}
+
+/// The Betti numbers of chains, over a field that is still to be picked.
+#[derive(Drop)]
+struct BettiWork<'a, 'b, L: Ledger> {
+    alloc: Global,
+    chains: &'a Chains<'b>,
+    steps: &'a mut Steps<L>,
+}
+
+impl<'a, 'b, L: Ledger> OverField for BettiWork<'a, 'b, L> {
+    type Answer = Result<Betti, AllocError>;
+
+    ghost gives = { λ k old new answer. GivesBetti k old.chains.now old.steps.now new.steps.now answer × (new.steps.ghost_name ≡ old.steps.ghost_name) };
+
+    fn over<F: Field>(&mut self) -> Result<Betti, AllocError> {
+        betti_numbers::<F, L>(self.alloc, self.chains, self.steps)
     }
 }
 
