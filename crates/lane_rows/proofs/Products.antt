@@ -1,10 +1,10 @@
 -- Sums of products, a part after a part.
-use Rattle.std.proofs.Common.{◌≡◌, ℕ, suc, ◌+◌, ◌*◌, ◌<◌, ◌≤◌, List, [], ◌∷◌, ◌++◌, length, sum, drop, get_or, T, true, ltb, ◌&&◌, Fits, w8, w32, ap₂, refl, ap, sym, ◌∙◌, arith, zero-add}
+use Rattle.std.proofs.Common.{◌≡◌, ℕ, suc, ◌+◌, ◌*◌, ◌<◌, ◌≤◌, List, [], ◌∷◌, ◌++◌, length, sum, drop, get_or, T, true, ◌&&◌, Fits, w8, ap₂, refl, ap, sym, ◌∙◌, arith, zero-add}
 use Rattle.std.specs.Simd.Lanes.{sum_l, products, dots, pair_sums, all_below, fold_l, Each1}
 use Rattle.std.proofs.lemmas.Bool.{lt-ltb}
 use Rattle.std.proofs.lemmas.Float.{T_from_true}
 use Rattle.std.proofs.lemmas.List.Sums.{sum_by_from}
-use Rattle.std.proofs.lemmas.Simd.{chunk-drop, length-chunk, sum_bound, sum_dots, fold-sum, length-zip2, get_or-zip2, Each1-from_get_or, Each1-zip2, Each2-of, dot4_Fits, chunk-fits, get_or-chunk, sum_fits}
+use Rattle.std.proofs.lemmas.Simd.{chunk-drop, length-chunk, sum_bound, sum_dots, fold-sum, length-zip2, Each1-from_get_or, Each1-zip2, Each2-of, dot4_Fits}
 use Rattle.std.proofs.Math.Nat.{mul-le-mul}
 use Rattle.lane_rows.specs.Lanes.{zip2, chunk}
 

@@ -1,5 +1,5 @@
 -- Loops that go over two rows, sixteen places at a time and then one by one.
-use Rattle.std.proofs.Common.{◌≡◌, ℕ, zero, suc, ◌+◌, ◌-◌, ◌*◌, ◌%◌, ◌<◌, ◌≤◌, List, [], ◌∷◌, All, length, get_or, map, set, get_or-set_same, get_or-set_other, inl, inr, zero-add, refl, ap, ap₂, sym, ◌∙◌, subst, arith}
+use Rattle.std.proofs.Common.{◌≡◌, ℕ, suc, ◌+◌, ◌-◌, ◌*◌, ◌%◌, ◌<◌, ◌≤◌, List, [], ◌∷◌, All, length, get_or, set, get_or-set_same, get_or-set_other, inl, inr, zero-add, refl, ap, ap₂, sym, ◌∙◌, subst, arith}
 use native.Mathlib.Decide.{dec_lt}
 use Prim.{yes, no}
 use Rattle.std.proofs.lemmas.Bool.{cases_eq}

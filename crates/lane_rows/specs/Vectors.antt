@@ -5,7 +5,7 @@
 --   IsStepped f old ys new at         at sixteen places from at on, new has f of the numbers in old and ys, and else it is old
 --   IsSteppedTo f old ys new n        the first n places of new have f of the numbers in old and ys, and else new is old
 --   IsFirstIn row at n                n is the first of the sixteen places from at on with another number than 0, 16 if none is
-use Rattle.std.specs.Prelude.{◌≡◌, ◌≢◌, ℕ, ◌+◌, ◌<◌, ◌≤◌, ◌⊎◌, List, length, slice_index}
+use Rattle.std.specs.Prelude.{◌≡◌, ◌≢◌, ℕ, ◌+◌, ◌<◌, ◌≤◌, List, length, slice_index}
 
 pub record HasLanes (v : List ℕ) (f : ℕ → ℕ) : Type 0 where
   pub long : length v ≡ 16

@@ -5,7 +5,7 @@
 --   Wraps k                  sum, product and negative read a number modulo the size, and inverses are below it
 --   tried_field k            where both are so, k has the laws of a field
 --   four_field, nine_field   the fields of 4 and of 9 elements have them
-use Rattle.std.proofs.Common.{◌≡◌, ◌≢◌, ℕ, ◌+◌, ◌*◌, ◌/◌, ◌<◌, ◌%◌, Bool, true, false, ◌||◌, ◌&&◌, ◌==◌, ltb, ◌-◌, List, arith, lit<, ap, sym, ◌∙◌, subst, refl}
+use Rattle.std.proofs.Common.{◌≡◌, ℕ, ◌+◌, ◌*◌, ◌/◌, ◌<◌, ◌%◌, Bool, true, ◌||◌, ◌&&◌, ◌==◌, ltb, ◌-◌, List, arith, lit<, ap, sym, ◌∙◌, subst, refl}
 use Rattle.std.specs.Prelude.{slice_index}
 use Rattle.std.proofs.Math.Nat.{mod-add-div, mod-mod_of_dvd, dvd-mul_right, add-mul-div_right, add-mul-mod_self_left, mod-eq_of_lt, mul-pos}
 use Rattle.std.proofs.lemmas.Nat.{mod_below}

@@ -1,4 +1,4 @@
-use Rattle.std.proofs.Common.{◌*◌, ◌+◌, length, arith, sym, ◌∙◌}
+use Rattle.std.proofs.Common.{◌*◌, ◌+◌, arith}
 use Rattle.lane_rows.proofs.Steps.{more_steps, all_steps}
 use Rattle.lane_rows.proofs.add.add_products.Goals as goal
 

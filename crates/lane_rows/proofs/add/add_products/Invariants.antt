@@ -1,4 +1,4 @@
-use Rattle.std.proofs.Common.{◌*◌, ℕ, get_or}
+use Rattle.std.proofs.Common.{◌*◌, get_or}
 use Rattle.lane_rows.specs.Vectors.{IsSteppedTo}
 use Rattle.lane_rows.proofs.add.add_products.Given as goal
 

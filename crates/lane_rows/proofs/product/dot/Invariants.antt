@@ -1,4 +1,4 @@
-use Rattle.std.proofs.Common.{◌≡◌, ◌+◌, ◌*◌, ◌≤◌, ℕ, List, sum, drop}
+use Rattle.std.proofs.Common.{◌≡◌, ◌+◌, ◌*◌, ◌≤◌, sum, drop}
 use Rattle.lane_rows.specs.Lanes.{zip2}
 use Rattle.lane_rows.proofs.product.dot.Given as goal
 

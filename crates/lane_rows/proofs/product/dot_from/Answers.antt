@@ -1,4 +1,4 @@
-use Rattle.std.proofs.Common.{◌<◌, ◌+◌, get_or, ℕ, ◌≡◌, w8, w32, subst, sym, arith}
+use Rattle.std.proofs.Common.{◌<◌, get_or, ℕ, w8, w32, subst, sym, arith}
 use Rattle.std.proofs.lemmas.Simd.{length-chunk, get_or-chunk, chunk-fits, sum_fits}
 use Rattle.std.specs.Simd.Lanes.{dots}
 use Rattle.lane_rows.specs.Lanes.{chunk}

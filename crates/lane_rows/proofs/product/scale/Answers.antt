@@ -1,4 +1,4 @@
-use Rattle.std.proofs.Common.{◌*◌, ◌+◌, ℕ, length, get_or, arith, sym, ◌∙◌, subst, List}
+use Rattle.std.proofs.Common.{◌*◌, ◌+◌, ℕ, get_or, arith, subst, List}
 use Rattle.lane_rows.specs.Vectors.{IsSteppedTo}
 use Rattle.lane_rows.proofs.Steps.{more_steps, scaled_steps}
 use Rattle.lane_rows.proofs.product.scale.Goals as goal

@@ -1,5 +1,5 @@
-use Rattle.std.proofs.Common.{◌≡◌, ◌<◌, ◌≢◌, length, arith, sym, ◌∙◌, get_or, get_or-set_other, get_or-set_same, below_more, length-set}
-use Rattle.std.proofs.lemmas.Grind.{same_number_lists, common_steps}
+use Rattle.std.proofs.Common.{◌<◌, ◌≢◌, length, arith, sym, ◌∙◌, get_or-set_other, get_or-set_same, below_more, length-set}
+use Rattle.std.proofs.lemmas.Grind.{same_number_lists}
 use Rattle.lane_rows.specs.Lanes.{multiples_of}
 use Rattle.lane_rows.proofs.Steps.{multiple_at}
 use Rattle.lane_rows.proofs.table.multiples_by.Goals as goal

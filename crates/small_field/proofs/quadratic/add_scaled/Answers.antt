@@ -1,4 +1,4 @@
-use Rattle.std.proofs.Common.{◌≡◌, ◌*◌, ◌≤◌, ℕ, get_or, ap, ◌∙◌, arith}
+use Rattle.std.proofs.Common.{◌*◌, ◌≤◌, get_or, ap, ◌∙◌, arith}
 use Rattle.std.proofs.Math.Nat.{mul-le-mul}
 use Rattle.lane_rows.specs.Lanes.{pair_sum}
 use Rattle.lane_rows.proofs.CallerLemmas.{zip2-agree}

@@ -1,4 +1,4 @@
-use Rattle.std.proofs.Common.{◌≡◌, ◌<◌, ◌*◌, ◌≢◌, length, arith, sym, ◌∙◌, get_or, get_or-set_other, get_or-set_same, below_more, length-set}
+use Rattle.std.proofs.Common.{◌<◌, ◌*◌, ◌≢◌, length, arith, get_or-set_other, get_or-set_same, below_more, length-set}
 use Rattle.std.proofs.lemmas.List.Elements.{All-from_get_or}
 use Rattle.small_field.proofs.quadratic.products.Goals as goal
 
