@@ -1,4 +1,5 @@
 mod Digits
+mod Examples
 mod Faults
 mod Following
 mod Forms

@@ -1,7 +1,7 @@
 -- The words of a command are read as that command.
 use Rattle.std.proofs.Common.{◌≡◌, ◌⊎◌, ◌≤◌, ◌<◌, ◌∙◌, ◌+◌, ◌-◌, ◌*◌, ◌^◌, ◌++◌, ap, sym, ℕ, Bool, true, false, leb, eqb, List, [], ◌∷◌, length, All, None, Some, refl, arith, inl, inr, codes, decimal}
 use Rattle.std.specs.Prelude.{if◌then◌else◌, option_map, ◌&&◌, ◌||◌}
-use Rattle.std.specs.List.{list_all}
+use Rattle.std.specs.List.{list_all, list_any}
 use Rattle.std.specs.declared.option.Option.{Option}
 use Rattle.std.proofs.lemmas.Bool.{le-leb, leb-true, false≢true}
 use Rattle.std.proofs.lemmas.Bool.Decides.{eqb_tells}
@@ -18,7 +18,7 @@ use Rattle.hap_words.specs.declared.table.Name.TheVariants as name
 use Rattle.hap_words.specs.Asked.{Asked, Source, SearchSpot, InputAsked, FieldAsked, CoversAsked, CoverAsked, ReportAsked, MakeAsked, cells, check, betti, cup, verify, migrate, group, covers, cover, report, make}
 use Rattle.hap_words.specs.Line.{hap_app}
 use Rattle.hap_words.specs.Ranges.{lies_between, is_modulus_if, is_sheets, is_budget, is_index, is_component, is_size, is_empty, is_start, has_cells, is_placed, is_spot, is_in_range}
-use Rattle.small_field.specs.Modulus.{is_modulus}
+use Rattle.small_field.specs.Modulus.{is_modulus, moduli}
 use Rattle.hap_words.specs.Texts.{named, is_decimal_digit, number_from, number_of, if_between, number_between}
 use Rattle.hap_words.specs.Table.{kinds, with, value_or, value_if, if_modulus, modulus_of, asked}
 use Rattle.hap_words.specs.Laws.{joined, joined_if, kind_word, from_text, words_of}
@@ -72,22 +72,22 @@ between-read least most n small h =
 
 -- ---- moduli
 
-one-more : (p q : ℕ) (rest : Bool) → q < 100 → (eqb p q || rest) ≡ true → (rest ≡ true → p < 100) → p < 100
-one-more p q rest small e next = elim (or-parts (eqb p q) rest e) [
-  | inl here ↦ elim (eqb_tells p q) [ inl k ↦ omega (arith, k.1) | inr k ↦ absurd (false≢true (sym k.0 ∙ here)) ]
-  | inr later ↦ next later
-]
+-- each modulus is small
+all-small : (p : ℕ) (xs : List ℕ) → list_all (λ x. leb x 100) xs ≡ true → list_any (λ x. eqb p x) xs ≡ true → p ≤ 100
+all-small p [] small h = absurd (false≢true h)
+all-small p (x ∷ xs) small h =
+    let k = and-parts (leb x 100) (list_all (λ x. leb x 100) xs) small in
+    elim (or-parts (eqb p x) (list_any (λ x. eqb p x) xs) h) [
+      | inl here ↦ elim (eqb_tells p x) [ inl e ↦ omega (arith, e.1, leb-true x 100 k.0) | inr e ↦ absurd (false≢true (sym e.0 ∙ here)) ]
+      | inr later ↦ all-small p xs k.1 later
+    ]
 
-modulus-small : (p : ℕ) → is_modulus p ≡ true → p < 100
-modulus-small p e = one-more p 2 _ (omega arith) e (λ e. one-more p 3 _ (omega arith) e (λ e. one-more p 5 _ (omega arith) e (λ e. one-more p 7 false (omega arith) (or-none (eqb p 7) e) (λ no. absurd (false≢true no)))))
-  where
-    or-none : (a : Bool) → a ≡ true → (a || false) ≡ true
-    or-none true e = refl
-    or-none false e = e
+modulus-small : (p : ℕ) → is_modulus p ≡ true → p ≤ 100
+modulus-small p e = all-small p moduli refl e
 
 modulus-read : (p : ℕ) → is_modulus p ≡ true → modulus_of (decimal p) ≡ Some p
 modulus-read p e =
-    let small : p < 100 = modulus-small p e in
+    let small : p ≤ 100 = modulus-small p e in
     ap if_modulus (number-read p (omega arith)) ∙ if-true (is_modulus p) (Some p) None e
 
 modulus-read-if : (o : Option ℕ) → is_modulus_if o ≡ true → value_if modulus_of (option_map decimal o) ≡ Some o

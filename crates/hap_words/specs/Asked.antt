@@ -1,7 +1,7 @@
 -- The commands with their options as values. Each case holds one record, so that an option more changes no match.
 --   Source               the kind of an input and the name of its file, None for standard input
---   SearchSpot           a spot in the listing of covers: a component, and in it the number of sheets and the cells that
---                        were placed; the start is component 1 with no sheet and no cell
+--   SearchSpot           a spot in the listing of covers: a component, and in it the number of sheets and the cells
+--                        that were placed; the start is component 1 with no sheet and no cell
 --   InputAsked, FieldAsked, NameAsked, CoversAsked, CoverAsked, ReportAsked, MakeAsked   the options, by name
 --   Asked                a command with the values of its options
 --   source_of input      what an `Input` of the code stands for
@@ -103,10 +103,23 @@ abbrev pub covers_of : CoversOptions → CoversAsked
 covers_of o = record { source = source_of o.input; sheets = o.sheets; budget = o.budget; from = spot_of o.from }
 
 abbrev pub cover_of : CoverOptions → CoverAsked
-cover_of o = record { source = source_of o.input; sheets = o.sheets; index = o.index; component = o.component; budget = o.budget; modulus = o.modulus }
+cover_of o = record {
+  source = source_of o.input;
+  sheets = o.sheets;
+  index = o.index;
+  component = o.component;
+  budget = o.budget;
+  modulus = o.modulus;
+}
 
 abbrev pub report_of : ReportOptions → ReportAsked
-report_of o = record { source = source_of o.input; modulus = o.modulus; sheets = o.sheets; budget = o.budget; from = spot_of o.from }
+report_of o = record {
+  source = source_of o.input;
+  modulus = o.modulus;
+  sheets = o.sheets;
+  budget = o.budget;
+  from = spot_of o.from;
+}
 
 abbrev pub make_of : MakeOptions → MakeAsked
 make_of o = record { size = o.size; modulus = o.modulus }

@@ -9,7 +9,8 @@
 --   OrderIsFree           two options of different names that stand side by side may change places: in front of them and
 --                         behind them may stand any words
 --   number_word, joined_if, source_words, from_text: steps
-use Rattle.std.specs.Prelude.{◌≡◌, ℕ, List, [], ◌∷◌, ◌++◌, Bool, true, false, not, ◌||◌, ◌==◌, codes, decimal, option_map, if◌then◌else◌}
+use Rattle.std.specs.Prelude.{◌≡◌, ℕ, List, [], ◌∷◌, ◌++◌, Bool, true, false, not, ◌||◌, ◌==◌}
+use Rattle.std.specs.Prelude.{codes, decimal, option_map, if◌then◌else◌}
 use Rattle.std.specs.declared.option.Option.{Option}
 use Rattle.std.specs.declared.option.Option.TheVariants.{Some, None}
 use Rattle.clap.specs.Words.{Text}
@@ -18,7 +19,8 @@ use Rattle.hap_words.specs.declared.command.Kind.{Kind}
 use Rattle.hap_words.specs.declared.command.Kind.TheVariants.{Boundary, Cubical, Permutahedral, Arcs}
 use Rattle.hap_words.specs.declared.table.Name.{Name}
 use Rattle.hap_words.specs.declared.table.Name.TheVariants as name
-use Rattle.hap_words.specs.Asked.{Asked, Source, SearchSpot, cells, check, betti, cup, verify, migrate, group, covers, cover, report, make}
+use Rattle.hap_words.specs.Asked.{Source, SearchSpot}
+use Rattle.hap_words.specs.Asked.{Asked, cells, check, betti, cup, verify, migrate, group, covers, cover, report, make}
 use Rattle.hap_words.specs.Ranges.{is_empty, is_in_range}
 use Rattle.hap_words.specs.Table.{word_of, number_of_name, asked}
 
@@ -60,11 +62,12 @@ words_of (covers a) =
     codes "covers" ∷ number_word name.Sheets a.sheets ∷ number_word name.Budget a.budget
     ∷ (joined_if name.From (from_text a.from) ++ source_words a.source)
 words_of (cover a) =
-    codes "cover" ∷ number_word name.Sheets a.sheets ∷ number_word name.Index a.index ∷ number_word name.Component a.component
-    ∷ number_word name.Budget a.budget ∷ (joined_if name.Mod (option_map decimal a.modulus) ++ source_words a.source)
+    codes "cover" ∷ number_word name.Sheets a.sheets ∷ number_word name.Index a.index
+    ∷ number_word name.Component a.component ∷ number_word name.Budget a.budget
+    ∷ (joined_if name.Mod (option_map decimal a.modulus) ++ source_words a.source)
 words_of (report a) =
-    codes "report" ∷ number_word name.Mod a.modulus ∷ number_word name.Sheets a.sheets ∷ number_word name.Budget a.budget
-    ∷ (joined_if name.From (from_text a.from) ++ source_words a.source)
+    codes "report" ∷ number_word name.Mod a.modulus ∷ number_word name.Sheets a.sheets
+    ∷ number_word name.Budget a.budget ∷ (joined_if name.From (from_text a.from) ++ source_words a.source)
 words_of (make a) = codes "make" ∷ number_word name.Size a.size ∷ joined_if name.Mod (option_map decimal a.modulus)
 
 -- ---- an option in two words

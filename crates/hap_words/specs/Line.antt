@@ -15,10 +15,14 @@ abbrev pub command_rule : Rule
 command_rule = record (new_rule (codes "command")) { required = true; action = Some Set }
 
 abbrev pub bare_app : App
-bare_app = with_rule (record (new_app (codes "hap")) { top = record (new_app (codes "hap")).top { no_binary_name = true; disable_help_flag = true } }) command_rule
+bare_app =
+    let app = new_app (codes "hap") in
+    with_rule (record app { top = record app.top { no_binary_name = true; disable_help_flag = true } }) command_rule
 
 unfoldable pub hap_app : App
 hap_app =
-    let four = with_rule (with_rule (with_rule (with_rule bare_app (option_rule (codes "kind"))) (option_rule (codes "in"))) (option_rule (codes "mod"))) (option_rule (codes "sheets")) in
-    let eight = with_rule (with_rule (with_rule (with_rule four (option_rule (codes "budget"))) (option_rule (codes "from"))) (option_rule (codes "index"))) (option_rule (codes "size")) in
+    let two = with_rule (with_rule bare_app (option_rule (codes "kind"))) (option_rule (codes "in")) in
+    let four = with_rule (with_rule two (option_rule (codes "mod"))) (option_rule (codes "sheets")) in
+    let six = with_rule (with_rule four (option_rule (codes "budget"))) (option_rule (codes "from")) in
+    let eight = with_rule (with_rule six (option_rule (codes "index"))) (option_rule (codes "size")) in
     with_rule eight (option_rule (codes "component"))

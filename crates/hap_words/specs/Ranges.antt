@@ -12,7 +12,8 @@ use Rattle.std.specs.declared.option.Option.{Option}
 use Rattle.std.specs.declared.option.Option.TheVariants.{Some, None}
 use Rattle.std.specs.List.{list_all}
 use Rattle.small_field.specs.Modulus.{is_modulus}
-use Rattle.hap_words.specs.Asked.{Asked, SearchSpot, cells, check, betti, cup, verify, migrate, group, covers, cover, report, make}
+use Rattle.hap_words.specs.Asked.{SearchSpot}
+use Rattle.hap_words.specs.Asked.{Asked, cells, check, betti, cup, verify, migrate, group, covers, cover, report, make}
 
 abbrev pub lies_between : (least most n : ℕ) → Bool
 lies_between least most n = nat_le least n && nat_le n most
@@ -66,6 +67,8 @@ is_in_range (verify a) = true
 is_in_range (migrate a) = true
 is_in_range (group a) = true
 is_in_range (covers a) = is_sheets a.sheets && (is_budget a.budget && is_spot a.from)
-is_in_range (cover a) = is_sheets a.sheets && (is_index a.index && (is_component a.component && (is_budget a.budget && is_modulus_if a.modulus)))
+is_in_range (cover a) =
+    is_sheets a.sheets
+    && (is_index a.index && (is_component a.component && (is_budget a.budget && is_modulus_if a.modulus)))
 is_in_range (report a) = is_modulus a.modulus && (is_sheets a.sheets && (is_budget a.budget && is_spot a.from))
 is_in_range (make a) = is_size a.size && is_modulus_if a.modulus

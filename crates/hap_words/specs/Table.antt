@@ -1,5 +1,5 @@
--- The table of commands: their words, the options that each takes, the values and the defaults. given tells the text that
--- was given under an option, None where there is none.
+-- The table of commands: their words, the options that each takes, the values and the defaults. given tells the text
+-- that was given under an option, None where there is none.
 --   verbs, kinds              the words of the commands and of the kinds of input
 --   names_of verb             the options that a command takes
 --   takes verb name           one of them
@@ -18,7 +18,8 @@
 --   verb_of asked             the command without its values
 --   verb_is_built, is_built   the commands that are built
 --   read words                what the words ask for, where that is built
---   number_of_name, names, fits_at, if_modulus, modulus_of, number_under, with, asked_given, unless_faulty, if_built: steps
+--   number_of_name, names, fits_at, if_modulus, modulus_of, number_under, with, asked_given, unless_faulty, if_built:
+--                             steps
 use Rattle.std.specs.Prelude.{ℕ, List, [], ◌∷◌, Bool, true, false, ◌||◌, ◌==◌, codes, is_none, if◌then◌else◌, option_map}
 use Rattle.std.specs.declared.option.Option.{Option}
 use Rattle.std.specs.declared.option.Option.TheVariants.{Some, None}
@@ -36,17 +37,23 @@ use Rattle.hap_words.specs.declared.table.Name.TheVariants as name
 use Rattle.hap_words.specs.Line.{hap_app}
 use Rattle.hap_words.specs.Texts.{named, number_of, number_between}
 use Rattle.small_field.specs.Modulus.{is_modulus}
-use Rattle.hap_words.specs.Asked.{Asked, Source, SearchSpot, InputAsked, FieldAsked, NameAsked, CoversAsked, CoverAsked, ReportAsked, MakeAsked, cells, check, betti, cup, verify, migrate, group, covers, cover, report, make}
+use Rattle.hap_words.specs.Asked.{Source, SearchSpot}
+use Rattle.hap_words.specs.Asked.{InputAsked, FieldAsked, NameAsked, CoversAsked, CoverAsked, ReportAsked, MakeAsked}
+use Rattle.hap_words.specs.Asked.{Asked, cells, check, betti, cup, verify, migrate, group, covers, cover, report, make}
 
 -- ---- the words
 
 abbrev pub verbs : List (Text × Verb)
 verbs =
-    (codes "cells", verb.Cells) ∷ (codes "check", verb.Check) ∷ (codes "betti", verb.Betti) ∷ (codes "cup", verb.Cup) ∷ (codes "verify", verb.Verify)
-    ∷ (codes "migrate", verb.Migrate) ∷ (codes "group", verb.Group) ∷ (codes "covers", verb.Covers) ∷ (codes "cover", verb.Cover) ∷ (codes "report", verb.Report) ∷ (codes "make", verb.Make) ∷ []
+    (codes "cells", verb.Cells) ∷ (codes "check", verb.Check) ∷ (codes "betti", verb.Betti) ∷ (codes "cup", verb.Cup)
+    ∷ (codes "verify", verb.Verify) ∷ (codes "migrate", verb.Migrate) ∷ (codes "group", verb.Group)
+    ∷ (codes "covers", verb.Covers) ∷ (codes "cover", verb.Cover) ∷ (codes "report", verb.Report)
+    ∷ (codes "make", verb.Make) ∷ []
 
 abbrev pub kinds : List (Text × Kind)
-kinds = (codes "boundary", Boundary) ∷ (codes "cubical", Cubical) ∷ (codes "permutahedral", Permutahedral) ∷ (codes "arcs", Arcs) ∷ []
+kinds =
+    (codes "boundary", Boundary) ∷ (codes "cubical", Cubical) ∷ (codes "permutahedral", Permutahedral)
+    ∷ (codes "arcs", Arcs) ∷ []
 
 -- ---- the options that each command takes
 
@@ -81,7 +88,9 @@ abbrev pub takes : Verb → Name → Bool
 takes v n = list_any (λ m. number_of_name m == number_of_name n) (names_of v)
 
 abbrev pub names : List Name
-names = name.Kind ∷ name.In ∷ name.Mod ∷ name.Sheets ∷ name.Budget ∷ name.From ∷ name.Index ∷ name.Size ∷ name.Component ∷ []
+names =
+    name.Kind ∷ name.In ∷ name.Mod ∷ name.Sheets ∷ name.Budget ∷ name.From ∷ name.Index ∷ name.Size
+    ∷ name.Component ∷ []
 
 abbrev pub word_of : Name → Text
 word_of name.Kind = codes "kind"
@@ -176,12 +185,14 @@ covers_asked given =
 
 abbrev pub cover_asked : Given → Option CoverAsked
 cover_asked given =
-    with (source given) (λ s. with (sheets given) (λ n. with (index given) (λ i. with (component given) (λ c. with (budget given) (λ b. with (modulus_if given) (λ p.
+    with (source given) (λ s. with (sheets given) (λ n. with (index given) (λ i.
+    with (component given) (λ c. with (budget given) (λ b. with (modulus_if given) (λ p.
     Some (record { source = s; sheets = n; index = i; component = c; budget = b; modulus = p })))))))
 
 abbrev pub report_asked : Given → Option ReportAsked
 report_asked given =
-    with (source given) (λ s. with (modulus given) (λ p. with (sheets given) (λ n. with (budget given) (λ b. with (from given) (λ t.
+    with (source given) (λ s. with (modulus given) (λ p. with (sheets given) (λ n.
+    with (budget given) (λ b. with (from given) (λ t.
     Some (record { source = s; modulus = p; sheets = n; budget = b; from = t }))))))
 
 abbrev pub make_asked : Given → Option MakeAsked

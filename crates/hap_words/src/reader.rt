@@ -3,7 +3,8 @@ ghost use Rattle.std.specs.Prelude.{◌≡◌, ◌&&◌, true, codes, map, strin
 ghost use Rattle.std.specs.declared.option.Option.TheVariants.{Some, None};
 ghost use Rattle.clap.specs.Words.{rows_of, found_of, first_of};
 ghost use Rattle.hap_words.specs.Reads.{Reads};
-ghost use Rattle.hap_words.specs.Asked.{asked_of, source_of, input_of, field_of, name_of, covers_of, cover_of, report_of, make_of, spot_of};
+ghost use Rattle.hap_words.specs.Asked.{asked_of, source_of, spot_of, input_of, field_of, name_of};
+ghost use Rattle.hap_words.specs.Asked.{covers_of, cover_of, report_of, make_of};
 ghost use Rattle.hap_words.specs.Ranges.{is_in_range};
 ghost use Rattle.hap_words.specs.Table as table;
 
@@ -264,8 +265,12 @@ fn given_modulus(text: &str) -> Option<u8>
     match read_number(text) {
         Some(2) => Some(2),
         Some(3) => Some(3),
+        Some(4) => Some(4),
         Some(5) => Some(5),
         Some(7) => Some(7),
+        Some(9) => Some(9),
+        Some(11) => Some(11),
+        Some(13) => Some(13),
         _ => None,
     }
 }

@@ -1,2 +1,5 @@
 pub mod CallerLemmas
 mod Loops
+mod Products
+mod Steps
+mod VectorLemmas

@@ -1,2 +1,3 @@
--- What contracts mean stands in order_complex; Ranks is what the code keeps for itself.
+-- What contracts mean stands in order_complex; Numbers and Ranks are what the code keeps for itself.
+pub mod Numbers
 pub mod Ranks

@@ -1,25 +1,25 @@
 // Betti numbers by the ranks of the reduced coboundaries.
 ghost use Rattle.std.specs.Prelude.{◌≡◌, ◌≤◌, ◌<◌, ◌+◌, IsTrue, IfOk, IfErr, OnOk};
-ghost use Rattle.small_field.specs.Prime.{mod_ops};
 ghost use Rattle.order_complex.specs.Chains.{chain_count};
 ghost use Rattle.order_complex.specs.Complex.{IsRefused};
 ghost use Rattle.order_complex.specs.Numbers.{AreBetti, coboundary_entries};
-ghost use Rattle.small_field.specs.Modulus.{is_modulus};
+ghost use Rattle.reduced_betti.specs.Numbers.{GivesBetti};
+ghost use Rattle.small_field.specs.Modulus.{field_of, is_modulus};
 
 use crate::ranks::{critical_count, reduced_ranks};
 use critical_complex::Reduced;
 use face_poset::Space;
 use linear_laws::basis_by_ranks;
 use order_complex::{Betti, ChainFault, Chains};
-use small_field::{Field, Gfp};
+use small_field::{Field, OverField, over_field};
 use split_laws::{betti_by_reduced_ranks, fields_split, reduced_is_closed};
 use std::alloc::{AllocError, Global};
 use std::sync::ledger::Ledger;
 use step_count::Steps;
 use vector_field::free_field;
 
-/// The Betti numbers of a space modulo 2, 3, 5 or 7. A refusal comes where there are more chains than the limit,
-/// carries their number, and takes no step.
+/// The Betti numbers of a space, with coefficients in the field with `modulus` elements. A refusal comes where there are
+/// more chains than the limit, carries their number, and takes no step.
 pub fn betti_of<L: Ledger>(
     alloc: Global,
     space: &Space,
@@ -28,7 +28,7 @@ pub fn betti_of<L: Ledger>(
     steps: &mut Steps<L>,
 ) -> Result<Betti, ChainFault>
     requires modulus { IsTrue (is_modulus modulus) }
-    ensures betti { IfOk result (AreBetti (mod_ops modulus) space.now) }
+    ensures betti { IfOk result (AreBetti (field_of modulus) space.now) }
     ensures within { OnOk result (chain_count space.now ≤ limit) }
     ensures refused { IfErr result (IsRefused (chain_count space.now) limit) }
     ensures steps { steps.new ≤ steps.old + coboundary_entries space.now }
@@ -41,7 +41,7 @@ pub fn betti_of<L: Ledger>(
     }
 }
 
-/// The Betti numbers modulo 2, 3, 5 or 7.
+/// The Betti numbers, with coefficients in the field with `modulus` elements.
 pub fn betti_modulo<L: Ledger>(
     alloc: Global,
     chains: &Chains<'_>,
@@ -49,14 +49,32 @@ pub fn betti_modulo<L: Ledger>(
     steps: &mut Steps<L>,
 ) -> Result<Betti, AllocError>
     requires modulus { IsTrue (is_modulus modulus) }
-    ensures betti { IfOk result (AreBetti (mod_ops modulus) chains.now) }
+    ensures betti { IfOk result (AreBetti (field_of modulus) chains.now) }
     ensures steps { steps.new ≤ steps.old + coboundary_entries chains.now }
 {
-    match modulus {
-        2 => betti_numbers::<Gfp<2>, L>(alloc, chains, steps),
-        3 => betti_numbers::<Gfp<3>, L>(alloc, chains, steps),
-        5 => betti_numbers::<Gfp<5>, L>(alloc, chains, steps),
-        _ => betti_numbers::<Gfp<7>, L>(alloc, chains, steps),
+    let mut work = BettiWork {
+        alloc,
+        chains,
+        steps,
+    };
+    over_field(modulus, &mut work)
+}
+
+/// The Betti numbers of chains, over a field that is still to be picked.
+#[derive(Drop)]
+struct BettiWork<'a, 'b, L: Ledger> {
+    alloc: Global,
+    chains: &'a Chains<'b>,
+    steps: &'a mut Steps<L>,
+}
+
+impl<'a, 'b, L: Ledger> OverField for BettiWork<'a, 'b, L> {
+    type Answer = Result<Betti, AllocError>;
+
+    ghost gives = { λ k old new answer. GivesBetti k old.chains.now old.steps.now new.steps.now answer × (new.steps.ghost_name ≡ old.steps.ghost_name) };
+
+    fn over<F: Field>(&mut self) -> Result<Betti, AllocError> {
+        betti_numbers::<F, L>(self.alloc, self.chains, self.steps)
     }
 }
 

@@ -11,3 +11,5 @@ pub use Rattle.small_field.proofs.Laws.{add_swap, add_mul, add_cancel}
 pub use Rattle.small_field.proofs.Laws.{neg_unique, neg_zero, neg_add, neg_neg}
 -- a product with a negative, on the right and on the left
 pub use Rattle.small_field.proofs.Laws.{mul_neg, neg_mul}
+-- what holds for each modulus in the list holds for each that passes the test; the laws of the fields that there are
+pub use Rattle.small_field.proofs.SmallFields.{each_modulus, small_fields}

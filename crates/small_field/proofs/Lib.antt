@@ -1,3 +1,5 @@
 pub mod CallerLemmas
+mod Examples
 mod Laws
 mod Pushed
+mod SmallFields

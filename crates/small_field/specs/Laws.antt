@@ -2,10 +2,15 @@
 --   total k xs      the sum of the elements xs
 --   FurtherLaws k   zero, negatives, cancellation, no zero divisors; sums of lists that are joined, put in another order,
 --                   added place by place, or multiplied
-use Rattle.std.specs.Prelude.{◌≡◌, ◌≢◌, ℕ, ◌<◌, List, [], ◌∷◌, ◌++◌, length, map}
+--   power k n x     the product of n times the element x
+--   characteristic p   2 for the field of 4 elements, 3 for that of 9, and p for the integers modulo a prime p
+--   IsSmallField p     field_of p has p elements and the laws of a field; the p-th power of an element is the element
+--                      itself, and the sum of it so many times as the characteristic says is 0
+use Rattle.std.specs.Prelude.{◌≡◌, ◌≢◌, ℕ, ◌<◌, List, [], ◌∷◌, ◌++◌, ◌==◌, if◌then◌else◌, zero, suc, length, map, replicate}
 use Rattle.std.specs.List.Sorted.{IsPermutation}
 use Rattle.lane_rows.specs.Lanes.{zip2}
-use Rattle.small_field.specs.Field.{Ops}
+use Rattle.small_field.specs.Field.{Ops, IsField}
+use Rattle.small_field.specs.Modulus.{field_of}
 
 abbrev pub total : Ops → List ℕ → ℕ
 total k [] = 0
@@ -25,3 +30,16 @@ pub record FurtherLaws (k : Ops) : Type 0 where
   pub total-sums : (xs ys : List ℕ) → length xs ≡ length ys → total k (zip2 k.add xs ys) ≡ k.add (total k xs) (total k ys)
   pub mul_total : (x : ℕ) (ys : List ℕ) → k.mul x (total k ys) ≡ total k (map (k.mul x) ys)
   pub neg_total : (xs : List ℕ) → k.neg (total k xs) ≡ total k (map k.neg xs)
+
+abbrev pub power : Ops → ℕ → ℕ → ℕ
+power k zero x = 1
+power k (suc n) x = k.mul x (power k n x)
+
+abbrev pub characteristic : ℕ → ℕ
+characteristic p = if p == 4 then 2 else (if p == 9 then 3 else p)
+
+pub record IsSmallField (p : ℕ) : Type 0 where
+  pub size : (field_of p).size ≡ p
+  pub laws : IsField (field_of p)
+  pub powers : (x : ℕ) → x < p → power (field_of p) p x ≡ x
+  pub multiples : (x : ℕ) → x < p → total (field_of p) (replicate (characteristic p) x) ≡ 0

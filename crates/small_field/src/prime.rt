@@ -9,7 +9,7 @@ ghost use Rattle.small_field.specs.ModField.{mod_field};
 use crate::field::Field;
 use std::marker::Model;
 
-/// An integer modulo `P`, seen as the number below `P`. It is a [`Field`] for `P` = 2, 3, 5 and 7.
+/// An integer modulo `P`, seen as the number below `P`. It is a [`Field`] for `P` = 2, 3, 5, 7, 11 and 13.
 #[derive(Clone, Copy, PartialEq, Eq)]
 pub struct Gfp<const P: u32> {
     value: u8,
@@ -292,5 +292,139 @@ impl Field for Gfp<7> {
 
     fn add_scaled_row(target: &mut [u8], source: &[u8], factor: Self) {
         lane_rows::add_scaled(target, source, factor.value, 7);
+    }
+}
+
+impl Field for Gfp<11> {
+    ghost ops = { mod_ops 11 };
+
+    ghost number_of = { λ x. x };
+
+    ghost SIZE = { 11 };
+
+    const SIZE: u32 = 11;
+
+    ghost laws = { mod_field 11 (lit< tt) refl };
+
+    ghost size_is = { refl };
+
+    ghost small = { lit≤ tt };
+
+    ghost identical = { λ x y same. same };
+
+    ghost eq_same = { λ x y. Prim.grind (arith, nat_tests) };
+
+    fn zero() -> Self {
+        Gfp { value: 0 }
+    }
+
+    fn one() -> Self {
+        Gfp { value: 1 }
+    }
+
+    fn add(self, other: Self) -> Self {
+        Gfp {
+            value: (self.value + other.value) % 11,
+        }
+    }
+
+    fn neg(self) -> Self {
+        Gfp {
+            value: (11 - self.value) % 11,
+        }
+    }
+
+    fn mul(self, other: Self) -> Self {
+        Gfp {
+            value: (self.value * other.value) % 11,
+        }
+    }
+
+    fn inv(self) -> Self {
+        const INVERSES: [u8; 11] = [0, 1, 6, 4, 3, 9, 2, 8, 7, 5, 10];
+        Gfp {
+            value: INVERSES[self.value as usize],
+        }
+    }
+
+    fn from_number(number: u32) -> Self {
+        Gfp {
+            value: number as u8,
+        }
+    }
+
+    fn to_number(self) -> u32 {
+        self.value as u32
+    }
+
+    fn add_scaled_row(target: &mut [u8], source: &[u8], factor: Self) {
+        lane_rows::add_scaled(target, source, factor.value, 11);
+    }
+}
+
+impl Field for Gfp<13> {
+    ghost ops = { mod_ops 13 };
+
+    ghost number_of = { λ x. x };
+
+    ghost SIZE = { 13 };
+
+    const SIZE: u32 = 13;
+
+    ghost laws = { mod_field 13 (lit< tt) refl };
+
+    ghost size_is = { refl };
+
+    ghost small = { lit≤ tt };
+
+    ghost identical = { λ x y same. same };
+
+    ghost eq_same = { λ x y. Prim.grind (arith, nat_tests) };
+
+    fn zero() -> Self {
+        Gfp { value: 0 }
+    }
+
+    fn one() -> Self {
+        Gfp { value: 1 }
+    }
+
+    fn add(self, other: Self) -> Self {
+        Gfp {
+            value: (self.value + other.value) % 13,
+        }
+    }
+
+    fn neg(self) -> Self {
+        Gfp {
+            value: (13 - self.value) % 13,
+        }
+    }
+
+    fn mul(self, other: Self) -> Self {
+        Gfp {
+            value: (self.value * other.value) % 13,
+        }
+    }
+
+    fn inv(self) -> Self {
+        const INVERSES: [u8; 13] = [0, 1, 7, 9, 10, 8, 11, 2, 5, 3, 4, 6, 12];
+        Gfp {
+            value: INVERSES[self.value as usize],
+        }
+    }
+
+    fn from_number(number: u32) -> Self {
+        Gfp {
+            value: number as u8,
+        }
+    }
+
+    fn to_number(self) -> u32 {
+        self.value as u32
+    }
+
+    fn add_scaled_row(target: &mut [u8], source: &[u8], factor: Self) {
+        lane_rows::add_scaled(target, source, factor.value, 13);
     }
 }

@@ -1,5 +1,5 @@
 -- What the order of a field is good for.
-use Rattle.std.proofs.Common.{◌≡◌, ◌⊎◌, inl, inr, ℕ, zero, suc, ◌+◌, ◌<◌, List, [], ◌∷◌, Bool, true, false, not, eqb, length, get_or, refl, ap, sym, ◌∙◌, subst, arith, Contains}
+use Rattle.std.proofs.Common.{◌≡◌, ◌⊎◌, inl, inr, ℕ, zero, suc, ◌+◌, ◌<◌, List, [], ◌∷◌, true, false, not, eqb, length, get_or, refl, ap, sym, ◌∙◌, subst, arith, Contains}
 use Rattle.std.specs.List.{list_any}
 use Rattle.std.proofs.lemmas.Bool.{eqb-false, not-true, cases_Bool, cases_order}
 use Rattle.face_poset.specs.declared.cells.Pair.{Pair}
@@ -20,7 +20,7 @@ lined-at R (x ∷ xs) h i zero d l k = absurd (omega arith)
 lined-at R (x ∷ xs) h zero (suc j) d l k = h.0 (get_or xs j d) (at-In xs j d (omega arith))
 lined-at R (x ∷ xs) h (suc i) (suc j) d l k = lined-at R xs h.1 i j d (omega arith) (omega arith)
 
-not-itself : (space : List (List (List ℕ))) (p : Pair) → In p.lower (others space p) → ⊥
+pub not-itself : (space : List (List (List ℕ))) (p : Pair) → In p.lower (others space p) → ⊥
 not-itself space p m = eqb-false p.lower p.lower (not-true (eqb p.lower p.lower) (filter-In (λ f. not (eqb f p.lower)) (facets_of space (p.dim + 1) p.upper) m)) refl
 
 module _ (space : List (List (List ℕ))) (pairs : List Pair) (valid : IsValid space pairs) where
@@ -59,29 +59,34 @@ module _ (space : List (List (List ℕ))) (pairs : List Pair) (valid : IsValid s
   none-closed : (p : Pair) → In p pairs → IsClosed space pairs p → ⊥
   none-closed p m h = let c : Contains pairs p = In-Contains m in omega (arith, falls p.dim p c refl p c refl h.other h.leads)
 
-  module _ (dim : ℕ) (known : ℕ → Bool)
-      (free : (p : Pair) (f : ℕ) → In p pairs → p.dim ≡ dim → In f (others space p) → list_any (has_lower dim f) pairs ≡ false → known f ≡ true)
-      (step : (p : Pair) → In p pairs → p.dim ≡ dim → ((f : ℕ) → In f (others space p) → known f ≡ true) → known p.lower ≡ true) where
+  module _ (dim : ℕ) (P : ℕ → Type 0)
+      (free : (p : Pair) (f : ℕ) → In p pairs → p.dim ≡ dim → In f (others space p) → list_any (has_lower dim f) pairs ≡ false → P f)
+      (step : (p : Pair) → In p pairs → p.dim ≡ dim → ((f : ℕ) → In f (others space p) → P f) → P p.lower) where
     -- at all places below n
-    below : (n : ℕ) (p : Pair) → (c : Contains pairs p) → c.0 < n → p.dim ≡ dim → known p.lower ≡ true
-    below zero p c l d = absurd (omega arith)
+    below : (n : ℕ) (p : Pair) → (c : Contains pairs p) → c.0 < n → p.dim ≡ dim → P p.lower
+    below zero p c l d = absurd (omega (arith, l))
     below (suc n) p c l d = step p (Contains-In c) d (λ f o. by f o (cases_Bool (list_any (has_lower dim f) pairs)) (λ q k i e. below n q k i e))
       where
         by : (f : ℕ) → In f (others space p) → (list_any (has_lower dim f) pairs ≡ true) ⊎ (list_any (has_lower dim f) pairs ≡ false)
-            → ((q : Pair) → (k : Contains pairs q) → k.0 < n → q.dim ≡ dim → known q.lower ≡ true) → known f ≡ true
+            → ((q : Pair) → (k : Contains pairs q) → k.0 < n → q.dim ≡ dim → P q.lower) → P f
         by f o (inr e) rec = free p f (Contains-In c) d o e
         by f o (inl e) rec =
             let s = any-some (has_lower dim f) pairs e in
             let t = has_lower-true s.0 dim f s.2 in
             let k : Contains pairs s.0 = In-Contains s.1 in
             let lt : k.0 < c.0 = earlier p s.0 c.0 k.0 c.1 k.1 c.2 (at p k) (t.0 ∙ sym d) (subst (λ (z : ℕ). In z (others space p)) (sym t.1) o) in
-            subst (λ (z : ℕ). known z ≡ true) t.1 (rec s.0 k (omega arith) t.0)
+            subst P t.1 (rec s.0 k (omega (arith, lt, l)) t.0)
+
+    -- what holds of each facet that is no lower, and of the lower of each pair where it holds of the other facets of the upper, holds of
+    -- all lowers
+    pub along-field : (p : Pair) → In p pairs → p.dim ≡ dim → P p.lower
+    along-field p m d = let c : Contains pairs p = In-Contains m in below (suc c.0) p c (omega arith) d
 
 pub valid_closes_none : ValidClosesNone
 valid_closes_none space pairs p valid c h = none-closed space pairs valid p c h
 
 pub substitution_ends : SubstitutionEnds
-substitution_ends space pairs dim known valid free step p m d = let c : Contains pairs p = In-Contains m in below space pairs valid dim known free step (suc c.0) p c (omega arith) d
+substitution_ends space pairs dim known valid free step p m d = along-field space pairs valid dim (λ f. known f ≡ true) free step p m d
 
 pub added_pair_closes : AddedPairCloses
 added_pair_closes space pairs p m i a b =

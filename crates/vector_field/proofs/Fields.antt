@@ -1,13 +1,16 @@
 -- A valid field has each upper once.
-use Rattle.std.proofs.Common.{◌≡◌, inl, inr, ℕ, ◌+◌, ◌<◌, ◌≤◌, List, not, length, get_or, ap, sym, ◌∙◌, subst}
+use Rattle.std.proofs.Common.{◌≡◌, inl, inr, ℕ, ◌+◌, ◌<◌, ◌≤◌, List, not, length, get_or, ap, sym, ◌∙◌, subst, arith}
 use Rattle.number_lists.specs.Words.{upto}
 use Rattle.face_poset.specs.Poset.{count}
 use Rattle.vector_field.specs.Pairs.{Field, IsFieldOf, is_used, unpaired, critical_of}
-use Rattle.vector_field.specs.Pairings.{IsPairing}
+use Rattle.face_poset.specs.declared.cells.Pair.{Pair}
+use Rattle.vector_field.specs.Pairings.{HasCells, IsPairing}
 use Rattle.number_lists.specs.Members.{In}
 use Rattle.number_lists.proofs.CallerLemmas.{In-inside, at-In, upto-In}
 use Rattle.vector_field.proofs.Lined.{lined-two}
 use Rattle.vector_field.proofs.Valid.{Goes, IsLined, lined-from}
+use Rattle.vector_field.proofs.MaximalTest.{Incident}
+use Rattle.vector_field.proofs.InRange.{has_cell}
 use Rattle.vector_field.proofs.Places.{count-at}
 
 pub pairing-from : (space : List (List (List ℕ))) (field : Field) → IsFieldOf space field → IsPairing space field
@@ -31,3 +34,11 @@ critical_at space field dim lowers i h l e lt =
     upto-In (count space dim) (get_or lowers i 0)
     (In-inside (λ cell. not (is_used field.pairs dim cell)) (upto (count space dim))
     (subst (λ (xs : List ℕ). In (get_or lowers i 0) xs) (e ∙ critical-is space field dim h l) (at-In lowers i 0 lt)))
+
+-- the cells of an incident pair are there
+pub field-cells : (space : List (List (List ℕ))) (field : Field) (p : Pair) → IsFieldOf space field → Incident space p → HasCells field.counts p
+field-cells space field p h i = record {
+  low = i.low;
+  lower = has_cell space field.counts p.dim p.lower h.counts (omega (arith, i.low)) i.first i.last;
+  upper = has_cell space field.counts (p.dim + 1) p.upper h.counts (omega (arith, i.low)) i.upper_first i.upper_last;
+}

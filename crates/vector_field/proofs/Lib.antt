@@ -15,4 +15,6 @@ mod Only
 mod Making
 mod Inserted
 mod Settled
+mod FirstOpen
+mod Filled
 mod Examples

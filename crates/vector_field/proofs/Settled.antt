@@ -5,17 +5,14 @@ use Rattle.std.proofs.lemmas.Bool.{or_cases, or_left, or_right, both_ways, cases
 use Rattle.face_poset.specs.declared.cells.Pair.{Pair}
 use Rattle.face_poset.specs.Poset.{count, cofaces_of}
 use Rattle.vector_field.specs.Pairs.{pair, is_used, Field, IsFieldOf}
-use Rattle.vector_field.specs.Pairings.{HasCells, IsPairing}
 use Rattle.vector_field.specs.Paths.{GradientPath, has_path}
 use Rattle.vector_field.specs.Maximal.{IsMaximal, is_settled}
 use Rattle.vector_field.specs.Stages.{IsAbove, Keeps, AreSettled}
 use Rattle.number_lists.specs.Members.{In}
 use Rattle.number_lists.proofs.CallerLemmas.{In-all, all-In}
-use Rattle.vector_field.proofs.Valid.{lined-from, used-more}
+use Rattle.vector_field.proofs.Valid.{used-more}
 use Rattle.vector_field.proofs.Paths.{path_is_exact, path-more}
 use Rattle.vector_field.proofs.MaximalTest.{Incident, incident-true, In-cofaces}
-use Rattle.vector_field.proofs.InRange.{has_cell}
-use Rattle.vector_field.proofs.Fields.{pairing-from}
 
 module _ (space : List (List (List ℕ))) (ps qs : List Pair) (keeps : Keeps ps qs) where
   kept : (p : Pair) → In p ps → In p qs
@@ -66,17 +63,3 @@ maximal-from space ps h0 h1 h2 dim lower upper i a b = by dim (incident-true spa
 
 pub field-of : (space : List (List (List ℕ))) (dim : ℕ) (field : Field) → IsAbove space dim field → IsFieldOf space field
 field-of space dim field h = record { counts = h.counts; valid = h.valid }
-
-pub pairing-of : (space : List (List (List ℕ))) (dim : ℕ) (field : Field) → IsAbove space dim field → IsPairing space field
-pairing-of space dim field h = pairing-from space field (field-of space dim field h)
-
-pub incident-of : (space : List (List (List ℕ))) (dim : ℕ) (field : Field) → IsAbove space dim field → (p : Pair) → In p field.pairs → Incident space p
-incident-of space dim field h p m = incident-true space p ((lined-from space field.pairs h.valid).incident p m)
-
--- the cells of an incident pair are there
-pub has_cells : (space : List (List (List ℕ))) (field : Field) (dim : ℕ) (p : Pair) → IsAbove space dim field → Incident space p → HasCells field.counts p
-has_cells space field dim p h i = record {
-  low = i.low;
-  lower = has_cell space field.counts p.dim p.lower h.counts (omega (arith, i.low)) i.first i.last;
-  upper = has_cell space field.counts (p.dim + 1) p.upper h.counts (omega (arith, i.low)) i.upper_first i.upper_last;
-}

@@ -3,15 +3,14 @@
 --   IsStep space pairs dim facet lower            the lower is that of a pair of a coface of the facet, and not the facet
 --   HasSteps space pairs dim facet old new        all that lead to the facet by one pair were put last
 --   reaches_found found lower facets              whether some other facet was found
---   IsOpen space pairs dim lower upper found      a coface that is in no pair and has no path to the cell, and what leads to the cell
-use Rattle.std.specs.Prelude.{◌≡◌, ◌≢◌, ◌⊎◌, ℕ, ◌+◌, ◌<◌, ◌≤◌, ◌&&◌, ◌==◌, List, length, not, Bool, true, false, slice_index_or}
+use Rattle.std.specs.Prelude.{◌≡◌, ◌≢◌, ◌⊎◌, ℕ, ◌<◌, ◌≤◌, ◌&&◌, ◌==◌, List, length, not, Bool, true, slice_index_or}
 use Rattle.std.specs.List.{list_any}
 use Rattle.number_lists.specs.Members.{In}
 use Rattle.face_poset.specs.declared.cells.Pair.{Pair}
 use Rattle.number_lists.specs.Words.{holds}
 use Rattle.face_poset.specs.Poset.{Layers, cofaces_of}
-use Rattle.vector_field.specs.Pairs.{pair, is_used}
-use Rattle.vector_field.specs.Paths.{leads_to, has_path}
+use Rattle.vector_field.specs.Pairs.{pair}
+use Rattle.vector_field.specs.Paths.{leads_to}
 
 abbrev pub IsLed : Layers → List Pair → (dim last : ℕ) → (found : List ℕ) → Type 0
 IsLed space pairs dim last found = (f : ℕ) → holds found f ≡ leads_to space pairs dim last f
@@ -31,9 +30,3 @@ pub record HasSteps (space : Layers) (pairs : List Pair) (dim facet : ℕ) (old 
 
 abbrev pub reaches_found : (found : List ℕ) → (lower : ℕ) → (facets : List ℕ) → Bool
 reaches_found found lower facets = list_any (λ f. not (f == lower) && holds found f) facets
-
-pub record IsOpen (space : Layers) (pairs : List Pair) (dim lower upper : ℕ) (found : List ℕ) : Type 0 where
-  pub coface : holds (cofaces_of space dim lower) upper ≡ true
-  pub free : is_used pairs (dim + 1) upper ≡ false
-  pub pathless : has_path space pairs dim upper lower ≡ false
-  pub led : IsLed space pairs dim lower found

@@ -1,10 +1,8 @@
 // More pairs, where no gradient path forbids them.
-ghost use Rattle.std.specs.Prelude.{◌≡◌, ◌<◌, ◌≤◌, ◌||◌, true, false, OnOk};
-ghost use Rattle.std.specs.List.{list_all};
-ghost use Rattle.face_poset.specs.Poset.{count, cofaces_of};
-ghost use Rattle.vector_field.specs.Pairs.{is_used};
-ghost use Rattle.vector_field.specs.Maximal.{is_settled};
-ghost use Rattle.vector_field.specs.Stages.{IsAbove, Keeps, AreSettled};
+ghost use Rattle.std.specs.Prelude.{◌≡◌, ◌<◌, ◌≤◌, false, OnOk};
+ghost use Rattle.face_poset.specs.Poset.{count};
+ghost use Rattle.vector_field.specs.Pairs.{is_used, IsFieldOf};
+ghost use Rattle.vector_field.specs.Stages.{first_open, put_open, filled};
 
 use crate::pairing::Pairing;
 use crate::search::open_coface;
@@ -13,7 +11,8 @@ use number_lists::FoundNumbers;
 use std::alloc::{AllocError, Global};
 
 /// Adds pairs of cells of dimension `dim` with their cofaces until each two that stay critical have a
-/// gradient path from the upper to the lower by another first facet.
+/// gradient path from the upper to the lower by another first facet. The cells are visited by number, and
+/// each that is in no pair is paired with its first coface that no path forbids.
 pub(crate) fn fill<G: Graded>(
     alloc: Global,
     graded: &G,
@@ -21,10 +20,9 @@ pub(crate) fn fill<G: Graded>(
     pairing: &mut Pairing,
 ) -> Result<(), AllocError>
     requires dim { dim < 3 }
-    requires field { IsAbove (G.space graded.now) dim pairing.old }
-    ensures field { OnOk result (IsAbove (G.space graded.now) dim pairing.new) }
-    ensures keeps { OnOk result (Keeps pairing.old.pairs pairing.new.pairs) }
-    ensures settled { OnOk result (AreSettled (G.space graded.now) pairing.new.pairs dim (count (G.space graded.now) dim)) }
+    requires field { IsFieldOf (G.space graded.now) pairing.old }
+    ensures counts { pairing.new.counts ≡ pairing.old.counts }
+    ensures pairs { OnOk result (pairing.new.pairs ≡ filled (G.space graded.now) dim pairing.old.pairs) }
 {
     let mut found = FoundNumbers::new(alloc, graded.cells(dim) as usize)?;
     for index in 0..graded.cells(dim) {
@@ -35,8 +33,8 @@ pub(crate) fn fill<G: Graded>(
     Ok(())
 }
 
-/// Pairs the lower with a coface that is in no pair and has no gradient path to it by another first facet,
-/// if there is one.
+/// Pairs the lower with its first coface that is in no pair and has no gradient path to it by another first
+/// facet, if there is one.
 fn add_pair<G: Graded>(
     alloc: Global,
     graded: &G,
@@ -48,13 +46,12 @@ fn add_pair<G: Graded>(
     requires dim { dim < 3 }
     requires first { 1 ≤ lower }
     requires last { lower ≤ count (G.space graded.now) dim }
-    requires field { IsAbove (G.space graded.now) dim pairing.old }
+    requires field { IsFieldOf (G.space graded.now) pairing.old }
     requires unused { is_used pairing.old.pairs dim lower ≡ false }
     requires most { found.old.most ≡ count (G.space graded.now) dim }
     ensures most { found.new.most ≡ found.old.most }
-    ensures field { OnOk result (IsAbove (G.space graded.now) dim pairing.new) }
-    ensures keeps { OnOk result (Keeps pairing.old.pairs pairing.new.pairs) }
-    ensures settled { OnOk result ((is_used pairing.new.pairs dim lower || list_all (is_settled (G.space graded.now) pairing.new.pairs dim lower) (cofaces_of (G.space graded.now) dim lower)) ≡ true) }
+    ensures counts { pairing.new.counts ≡ pairing.old.counts }
+    ensures pairs { OnOk result (pairing.new.pairs ≡ put_open (G.space graded.now) dim pairing.old.pairs lower (first_open (G.space graded.now) pairing.old.pairs dim lower)) }
 {
     match open_coface(graded, pairing, dim, lower, found)? {
         Some(upper) => pairing.insert(alloc, Pair { dim, lower, upper }, found),

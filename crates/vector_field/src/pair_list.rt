@@ -1,9 +1,11 @@
 ghost use Rattle.std.specs.Prelude.{◌≡◌, ◌<◌, length, slice_index, slice_index_or, IfOk, IfErr};
 ghost use Rattle.std.specs.List.Sorted.{IsStrictlyIncreasing};
 ghost use Rattle.vector_field.specs.Pairs.{counts_of, critical_of, first_bad, unpaired, IsFault, IsFieldOf, IsPartner, IsValid};
+ghost use Rattle.vector_field.specs.Stages.{filled};
 
 use crate::checking::{fits, last_places};
 use crate::fault::PairFault;
+use crate::filling::fill;
 use crate::pairing::Pairing;
 use crate::partner::Partner;
 use face_poset::{Graded, Pair};
@@ -57,6 +59,29 @@ impl PairList {
             }
             pairing.push(pairs[index])?;
         }
+        let field = PairList::from_pairing(alloc, graded, pairing)?;
+        Ok(field)
+    }
+
+    /// The field with more pairs of cells of dimension `dim` with their cofaces, until each two of these that
+    /// stay critical have a gradient path from the upper to the lower by another first facet.
+    ///
+    /// The cells are visited by number. Each that is in no pair is paired with its first coface that is in no
+    /// pair and from which no gradient path leads to the cell by another first facet. The pair is put before
+    /// those pairs of the dimension whose lowers lead to its lower, and after all others.
+    pub fn filled<G: Graded>(
+        self,
+        alloc: Global,
+        graded: &G,
+        dim: u8,
+    ) -> Result<PairList, AllocError>
+        requires dim { dim < 3 }
+        requires field { IsFieldOf (G.space graded.now) self }
+        ensures pairs { IfOk result (λ field. field.pairs ≡ filled (G.space graded.now) dim self.pairs) }
+        ensures valid { IfOk result (IsFieldOf (G.space graded.now)) }
+    {
+        let mut pairing = self.pairing;
+        fill(alloc, graded, dim, &mut pairing)?;
         let field = PairList::from_pairing(alloc, graded, pairing)?;
         Ok(field)
     }

@@ -1,20 +1,20 @@
 // The search for the cells from which the pairs lead to a cell.
-ghost use Rattle.std.specs.Prelude.{◌≡◌, ◌+◌, ◌<◌, ◌≤◌, ℕ, true, MatchOption, IfOk, OnOk};
+ghost use Rattle.std.specs.Prelude.{◌≡◌, ◌+◌, ◌<◌, ◌≤◌, ℕ, true, IfOk, IfSome, OnOk};
 ghost use Rattle.std.specs.List.{list_all};
 ghost use Rattle.number_lists.specs.Words.{holds};
-ghost use Rattle.face_poset.specs.Poset.{count, facets_of, cofaces_of};
+ghost use Rattle.face_poset.specs.Poset.{count};
 ghost use Rattle.vector_field.specs.Pairs.{is_used};
 ghost use Rattle.vector_field.specs.Pairings.{HasCell, IsPairing};
-ghost use Rattle.vector_field.specs.Searches.{IsLed, HasSteps, IsOpen, reaches_found};
-ghost use Rattle.vector_field.specs.Maximal.{is_settled};
+ghost use Rattle.vector_field.specs.Searches.{IsLed, HasSteps, reaches_found};
+ghost use Rattle.vector_field.specs.Stages.{first_open};
 
 use crate::pairing::Pairing;
 use face_poset::Graded;
 use number_lists::FoundNumbers;
 use std::alloc::AllocError;
 
-/// A coface of the cell that is in no pair and has no gradient path to it by another first facet, if there
-/// is one.
+/// The first coface of the cell that is in no pair and has no gradient path to it by another first facet,
+/// if there is one. Then the cells that lead to the cell were found.
 pub(crate) fn open_coface<G: Graded>(
     graded: &G,
     pairing: &Pairing,
@@ -28,9 +28,8 @@ pub(crate) fn open_coface<G: Graded>(
     requires field { IsPairing (G.space graded.now) pairing.now }
     requires most { found.old.most ≡ count (G.space graded.now) dim }
     ensures most { found.new.most ≡ found.old.most }
-    ensures coface { IfOk result (λ answer. MatchOption answer
-        (list_all (is_settled (G.space graded.now) pairing.now.pairs dim lower) (cofaces_of (G.space graded.now) dim lower) ≡ true)
-        (λ upper. IsOpen (G.space graded.now) pairing.now.pairs dim lower upper found.new.found)) }
+    ensures coface { IfOk result (λ answer. answer ≡ first_open (G.space graded.now) pairing.now.pairs dim lower) }
+    ensures led { IfOk result (λ answer. IfSome answer (λ _. IsLed (G.space graded.now) pairing.now.pairs dim lower found.new.found)) }
 {
     let uppers = graded.cofaces(dim, lower);
     if are_used(pairing, dim + 1, uppers) {

@@ -1,48 +1,50 @@
-use Rattle.std.proofs.Common.{◌≡◌, ℕ, ◌+◌, List, Bool, true, ◌||◌, ap, sym, ◌∙◌, subst}
-use Rattle.std.specs.List.{list_all}
-use Rattle.std.proofs.lemmas.Bool.{or_left}
+use Rattle.std.proofs.Common.{◌≡◌, ℕ, ◌+◌, ◌<◌, List, true, false, ap, sym, ◌∙◌, arith}
 use Rattle.face_poset.specs.declared.cells.Pair.{Pair}
-use Rattle.face_poset.specs.Poset.{cofaces_of}
+use Rattle.face_poset.specs.Poset.{count}
 use Rattle.vector_field.specs.Pairs.{is_used, Field}
 use Rattle.number_lists.specs.Found.{Numbers}
-use Rattle.vector_field.specs.Maximal.{is_settled}
-use Rattle.vector_field.specs.Stages.{IsAbove, Keeps, AreSettled}
-use Rattle.vector_field.proofs.Settled.{are-settled-more, settled-next}
+use Rattle.vector_field.specs.Stages.{first_open, put_open, filled_at, filled_upto}
+use Rattle.vector_field.proofs.Filled.{filled-used, filled-unused, upto-next, upto-field}
 use Rattle.vector_field.proofs.filling.fill.Goals as goal
 use Rattle.vector_field.proofs.filling.fill.Goals.{then-not-is_used+in_ok-add_pair, else-not-is_used}
 
-abbrev row : List (List (List ℕ)) → List Pair → (dim lower : ℕ) → Bool
-row space ps dim lower = is_used ps dim lower || list_all (is_settled space ps dim lower) (cofaces_of space dim lower)
+pub add_pair-requires-clause-field : goal.add_pair-requires-clause-field
+add_pair-requires-clause-field g c =
+    upto-field (g.G.Graded.space c.args.graded.now) c.args.dim c.requires.dim c.args.pairing.now c.loop-index.pairing c.loop-index.index (omega (arith, c.loop-index-test.true, c.cells-index-end.ensures.cells)) c.requires.field
+    c.loop-index.invariant.1 c.loop-index.invariant.2
 
--- what the loop keeps, after a turn that kept all pairs
-record IsFilled (space : List (List (List ℕ))) (dim first : ℕ) (start new : Field) : Type 0 where
-  above : IsAbove space dim new
-  keeps : Keeps start.pairs new.pairs
-  settled : AreSettled space new.pairs dim first
+-- what a turn does, where the cell is in no pair and where it is in one
+module _ (space : List (List (List ℕ))) (dim first : ℕ) (low : dim < 3) (start old new : List Pair) (before : old ≡ filled_upto space dim start first) where
+  turned : new ≡ filled_at space dim old (first + 1) → new ≡ filled_upto space dim start (first + 1)
+  turned e = e ∙ (ap (λ (ps : List Pair). filled_at space dim ps (first + 1)) before ∙ sym (upto-next space dim low start first))
 
-turned : (space : List (List (List ℕ))) (dim first : ℕ) (start old new : Field) → IsAbove space dim new → Keeps start.pairs old.pairs → Keeps old.pairs new.pairs → AreSettled space old.pairs dim first → row space new.pairs dim (first + 1) ≡ true → IsFilled space dim (first + 1) start new
-turned space dim first start old new a k l s e = record {
-  above = a;
-  keeps = λ p m. l p (k p m);
-  settled = settled-next space new.pairs dim first (are-settled-more space old.pairs new.pairs l dim first s) e;
-}
+  added : is_used old dim (first + 1) ≡ false → new ≡ put_open space dim old (first + 1) (first_open space old dim (first + 1)) → new ≡ filled_upto space dim start (first + 1)
+  added u e = turned (e ∙ sym (filled-unused space dim low old (first + 1) u))
+
+  passed : is_used old dim (first + 1) ≡ true → new ≡ old → new ≡ filled_upto space dim start (first + 1)
+  passed u e = turned (e ∙ sym (filled-used space dim low old (first + 1) u))
 
 pub loop-index-preserved : goal.loop-index-preserved
 loop-index-preserved g c =
     let space : List (List (List ℕ)) = g.G.Graded.space c.args.graded.now in
-    let dim : ℕ = c.args.dim in
     let old : Field = c.loop-index.pairing in
     elim c.if-not-is_used.branch [
-      | then-not-is_used+in_ok-add_pair w ↦
-          let t : IsFilled space dim (c.loop-index.index + 1) c.args.pairing.now c.if-not-is_used.pairing =
-          subst (IsFilled space dim (c.loop-index.index + 1) c.args.pairing.now) (sym w.pairing-is)
-          (turned space dim c.loop-index.index c.args.pairing.now old w.add_pair.new.pairing w.in_ok-add_pair.ensures.field c.loop-index.invariant.2 w.in_ok-add_pair.ensures.keeps c.loop-index.invariant.3 w.in_ok-add_pair.ensures.settled) in
-          (ap (λ (n : Numbers). n.most) w.found-is ∙ (w.add_pair.ensures.most ∙ c.loop-index.invariant.0), t.above, t.keeps, t.settled)
-      | else-not-is_used w ↦
-          let used : is_used old.pairs dim (c.loop-index.index + 1) ≡ true = sym c.is_used.ensures ∙ w.if-not-is_used.false in
-          let t : IsFilled space dim (c.loop-index.index + 1) c.args.pairing.now c.if-not-is_used.pairing =
-          subst (IsFilled space dim (c.loop-index.index + 1) c.args.pairing.now) (sym w.pairing-is)
-          (turned space dim c.loop-index.index c.args.pairing.now old old c.loop-index.invariant.1 c.loop-index.invariant.2 (λ p m. m) c.loop-index.invariant.3
-          (or_left (is_used old.pairs dim (c.loop-index.index + 1)) (list_all (is_settled space old.pairs dim (c.loop-index.index + 1)) (cofaces_of space dim (c.loop-index.index + 1))) used)) in
-          (ap (λ (n : Numbers). n.most) w.found-is ∙ c.loop-index.invariant.0, t.above, t.keeps, t.settled)
+      | then-not-is_used+in_ok-add_pair w ↦ (
+        ap (λ (n : Numbers). n.most) w.found-is ∙ (w.add_pair.ensures.most ∙ c.loop-index.invariant.0),
+        ap (λ (f : Field). f.counts) w.pairing-is ∙ (w.add_pair.ensures.counts ∙ c.loop-index.invariant.1),
+        added space c.args.dim c.loop-index.index c.requires.dim c.args.pairing.now.pairs old.pairs c.if-not-is_used.pairing.pairs c.loop-index.invariant.2 (sym c.is_used.ensures ∙ w.if-not-is_used.true)
+            (ap (λ (f : Field). f.pairs) w.pairing-is ∙ w.in_ok-add_pair.ensures.pairs),
+      )
+      | else-not-is_used w ↦ (
+        ap (λ (n : Numbers). n.most) w.found-is ∙ c.loop-index.invariant.0,
+        ap (λ (f : Field). f.counts) w.pairing-is ∙ c.loop-index.invariant.1,
+        passed space c.args.dim c.loop-index.index c.requires.dim c.args.pairing.now.pairs old.pairs c.if-not-is_used.pairing.pairs c.loop-index.invariant.2 (sym c.is_used.ensures ∙ w.if-not-is_used.false)
+            (ap (λ (f : Field). f.pairs) w.pairing-is),
+      )
     ]
+
+pub returns-clause-pairs : goal.returns-clause-pairs
+returns-clause-pairs g c =
+    let space : List (List (List ℕ)) = g.G.Graded.space c.args.graded.now in
+    let all : c.loop-index.index ≡ count space c.args.dim = omega (arith, c.loop-index-test.false, c.loop-index.auto.index-end, c.cells-index-end.ensures.cells) in
+    c.loop-index.invariant.2 ∙ ap (filled_upto space c.args.dim c.args.pairing.now.pairs) all
