@@ -26,7 +26,7 @@ use Rattle.face_poset.specs.Text.{boundary_text}
 use Rattle.order_complex.specs.Chains.{chains_of}
 use Rattle.tuple_spaces.specs.Torus.{torus_of}
 use Rattle.regular_check.specs.Components.{component_count}
-use Rattle.small_field.specs.Prime.{mod_ops}
+use Rattle.small_field.specs.Modulus.{field_of}
 use Rattle.order_complex.specs.declared.betti.Betti.{Betti}
 use Rattle.order_complex.specs.Numbers.{AreBetti}
 use Rattle.hap_words.specs.Asked.{Asked, cells, check, betti, make}
@@ -79,7 +79,7 @@ told_text size space chains numbers = (torus_text size ++ cells_text space) ++ (
 abbrev pub IsMade : (size : ℕ) → (modulus : Option ℕ) → List ℕ → Type 0
 IsMade size None text = text ≡ boundary_text (torus_of size)
 IsMade size (Some p) text =
-    (numbers : Betti) × AreBetti (mod_ops p) (torus_of size) numbers
+    (numbers : Betti) × AreBetti (field_of p) (torus_of size) numbers
     × (text ≡ told_text size (torus_of size) (chain_numbers (torus_of size)) numbers)
 
 abbrev pub IsAnswer : Asked → List ℕ → List ℕ → Type 0
@@ -87,7 +87,7 @@ IsAnswer (cells o) bytes text = (space : Layers) × (space_in o.source.kind byte
 IsAnswer (check o) bytes text = (space : Layers) × (regular_in o.source.kind bytes ≡ Ok space) × (text ≡ check_text space)
 IsAnswer (betti o) bytes text =
     (space : Layers) × (regular_in o.source.kind bytes ≡ Ok space)
-    × (numbers : Betti) × AreBetti (mod_ops o.modulus) space numbers × (text ≡ betti_text numbers)
+    × (numbers : Betti) × AreBetti (field_of o.modulus) space numbers × (text ≡ betti_text numbers)
 IsAnswer (make o) bytes text = IsMade o.size o.modulus text
 IsAnswer other bytes text = ⊥
 
@@ -116,4 +116,4 @@ GivesIf stage space P (Err outcome) = Fails stage outcome
 abbrev pub IsSummary : (size modulus : ℕ) → Summary → Type 0
 IsSummary size modulus s =
     (s.size ≡ size) × (s.space ≡ torus_of size) × (s.chains ≡ chain_numbers (torus_of size))
-    × AreBetti (mod_ops modulus) (torus_of size) s.numbers
+    × AreBetti (field_of modulus) (torus_of size) s.numbers

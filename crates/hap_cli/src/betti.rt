@@ -1,7 +1,6 @@
 // The command `betti`.
 ghost use Rattle.std.specs.Prelude.{◌≡◌, ◌≤◌, ◌+◌, true, length, Ok};
-ghost use Rattle.small_field.specs.Prime.{mod_ops};
-ghost use Rattle.small_field.specs.Modulus.{is_modulus};
+ghost use Rattle.small_field.specs.Modulus.{field_of, is_modulus};
 ghost use Rattle.order_complex.specs.Numbers.{AreBetti};
 ghost use Rattle.hap_outside.specs.Causes.{HasCause};
 ghost use Rattle.hap_outside.specs.Writes.{Writes};
@@ -50,7 +49,7 @@ fn regular_betti<L: Ledger>(
     steps: &mut Steps<L>,
 ) -> Result<Betti, Outcome>
     requires { is_modulus modulus ≡ true }
-    ensures numbers { GivesIf (only_few (only_regular (Ok space.now))) space.now (AreBetti (mod_ops modulus) space.now) result }
+    ensures numbers { GivesIf (only_few (only_regular (Ok space.now))) space.now (AreBetti (field_of modulus) space.now) result }
     ensures steps { steps.new ≤ steps.old + entries_of (only_few (only_regular (Ok space.now))) }
 {
     let regular = regular_space(alloc, space)?;
@@ -65,7 +64,7 @@ fn few_betti<L: Ledger>(
     steps: &mut Steps<L>,
 ) -> Result<Betti, Outcome>
     requires { is_modulus modulus ≡ true }
-    ensures numbers { GivesIf (only_few (Ok space.now)) space.now (AreBetti (mod_ops modulus) space.now) result }
+    ensures numbers { GivesIf (only_few (Ok space.now)) space.now (AreBetti (field_of modulus) space.now) result }
     ensures steps { steps.new ≤ steps.old + entries_of (only_few (Ok space.now)) }
 {
     Ok(betti_of(alloc, space, modulus, MOST_CHAINS, steps)?)

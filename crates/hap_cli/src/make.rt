@@ -1,12 +1,11 @@
 // The command `make`.
 ghost use Rattle.std.specs.Prelude.{◌≡◌, ◌≤◌, ◌+◌, ◌++◌, true, Ok};
-ghost use Rattle.small_field.specs.Modulus.{is_modulus};
+ghost use Rattle.small_field.specs.Modulus.{field_of, is_modulus};
 ghost use Rattle.tuple_spaces.specs.Torus.{torus_of};
 ghost use Rattle.hap_outside.specs.Causes.{HasCause};
 ghost use Rattle.hap_outside.specs.Writes.{Writes};
 ghost use Rattle.hap_words.specs.Asked.{make, make_of};
 ghost use Rattle.hap_words.specs.Ranges.{is_in_range};
-ghost use Rattle.small_field.specs.Prime.{mod_ops};
 ghost use Rattle.order_complex.specs.Numbers.{AreBetti};
 ghost use Rattle.hap_inputs.specs.Spaces.{only_few};
 ghost use Rattle.hap_cli.specs.Answers.{torus_text, cells_text, chains_text, betti_text, summary_text, chain_numbers, Gives, GivesIf, IsSummary};
@@ -92,7 +91,7 @@ fn chains_and_betti<L: Ledger>(
     steps: &mut Steps<L>,
 ) -> Result<(ChainNumbers, Betti), Outcome>
     requires { is_modulus modulus ≡ true }
-    ensures numbers { GivesIf (only_few (Ok space.now)) space.now (λ told. (told.0 ≡ chain_numbers space.now) × AreBetti (mod_ops modulus) space.now told.1) result }
+    ensures numbers { GivesIf (only_few (Ok space.now)) space.now (λ told. (told.0 ≡ chain_numbers space.now) × AreBetti (field_of modulus) space.now told.1) result }
     ensures steps { steps.new ≤ steps.old + entries_of (only_few (Ok space.now)) }
 {
     let chains = Chains::new(alloc, space, MOST_CHAINS)?;
