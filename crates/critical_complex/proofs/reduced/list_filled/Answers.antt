@@ -3,8 +3,8 @@ use Rattle.std.proofs.lemmas.List.{get_or_default}
 use Rattle.critical_complex.specs.Stages.{Stage, empty_stage, IsPaired}
 use Rattle.critical_complex.specs.Reaches.{AreDegrees}
 use Rattle.critical_complex.specs.Splits.{stage_at}
-use Rattle.critical_complex.proofs.Matching.{matrices_more}
-use Rattle.critical_complex.proofs.reduced.list_matrices.Goals as goal
+use Rattle.critical_complex.proofs.Matching.{filled_more}
+use Rattle.critical_complex.proofs.reduced.list_filled.Goals as goal
 
 stage_is : (stages : List Stage) (i : ℕ) (s : Stage) → length stages ≡ 5 → i < 4 → s ≡ get_or stages i s → s ≡ stage_at stages i
 stage_is stages i s l lt e = e ∙ get_or_default stages i s empty_stage (omega arith)
@@ -12,8 +12,8 @@ stage_is stages i s l lt e = e ∙ get_or_default stages i s empty_stage (omega 
 next_is : (stages : List Stage) (i : ℕ) (s : Stage) → length stages ≡ 5 → i < 4 → s ≡ get_or stages (i + 1) s → s ≡ stage_at stages (suc i)
 next_is stages i s l lt e = e ∙ (get_or_default stages (i + 1) s empty_stage (omega arith) ∙ ap (stage_at stages) (let z : i + 1 ≡ suc i = omega arith in z))
 
-pub coboundary_matrix-requires : goal.coboundary_matrix-requires
-coboundary_matrix-requires g c =
+pub filled_rows-requires : goal.filled_rows-requires
+filled_rows-requires g c =
     let i : ℕ = c.loop-dim.dim in
     let a : c.index-stages-dim.result ≡ stage_at c.args.stages.now i = stage_is c.args.stages.now i c.index-stages-dim.result c.requires.splitting.long c.loop-dim-test.true c.index-stages-dim.is in
     let b : c.index-stages-dim-in-loop-dim.result ≡ stage_at c.args.stages.now (suc i) = next_is c.args.stages.now i c.index-stages-dim-in-loop-dim.result c.requires.splitting.long c.loop-dim-test.true c.index-stages-dim-in-loop-dim.is in
@@ -25,7 +25,7 @@ coboundary_matrix-requires g c =
 
 pub loop-dim-preserved : goal.loop-dim-preserved
 loop-dim-preserved g c =
-    matrices_more g.F.Field.ops c.args.stages.now c.loop-dim.dim c.loop-dim.matrices.items c.push.new.self.items c.in_ok-matrix.matrix c.index-stages-dim.result c.index-stages-dim-in-loop-dim.result c.loop-dim.invariant
+    filled_more g.F.Field.ops c.args.stages.now c.loop-dim.dim c.loop-dim.filled.items c.push.new.self.items c.in_ok-filled_rows.field-0 c.index-stages-dim.result c.index-stages-dim-in-loop-dim.result c.loop-dim.invariant
     (stage_is c.args.stages.now c.loop-dim.dim c.index-stages-dim.result c.requires.splitting.long c.loop-dim-test.true c.index-stages-dim.is)
     (next_is c.args.stages.now c.loop-dim.dim c.index-stages-dim-in-loop-dim.result c.requires.splitting.long c.loop-dim-test.true c.index-stages-dim-in-loop-dim.is)
-    c.in_ok-matrix.ensures.cols c.in_ok-matrix.ensures.rows c.in_ok-push.ensures.items
+    c.in_ok-filled_rows.ensures c.in_ok-push.ensures.items
