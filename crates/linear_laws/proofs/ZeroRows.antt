@@ -190,7 +190,7 @@ module _ (k : Ops) (f : IsField k) where
   all_zeros n zero P z = tt
   all_zeros n (suc m) P z = (z, all_zeros n m P z)
 
-  zeros_entry : (n j : ℕ) → get_or (replicate n 0) j 0 ≡ 0
+  zeros_entry : (n j : ℕ) → get_or (replicate {A = ℕ} n 0) j 0 ≡ 0
   zeros_entry zero j = refl
   zeros_entry (suc n) zero = refl
   zeros_entry (suc n) (suc j) = zeros_entry n j
