@@ -5,12 +5,12 @@ use Prim.{yes, no}
 use Rattle.linear_laws.specs.Vectors.{entry, row_at}
 use Rattle.field_matrix.specs.Steps.{IsNextPivot, ZerosBetween}
 
--- of the rows from `rank` on before `upto_row`, all are zero before the column; and it is `upto`, or the row is the first that is not zero there
+-- the rows from `rank` on that were seen are zero before the column; it is `upto`, or the row is the first that is not zero there
 pub record IsBest (rows : List (List ℕ)) (rank begin upto seen row col : ℕ) : Type 0 where
   pub low : begin ≤ col
   pub high : col ≤ upto
   pub zeros : (i j : ℕ) → rank ≤ i → i < seen → begin ≤ j → j < col → entry rows i j ≡ 0
-  pub first : col < upto → (rank ≤ row) × (row < seen) × (entry rows row col ≢ 0) × ((i : ℕ) → rank ≤ i → i < row → entry rows i col ≡ 0)
+  pub first : col < upto → (rank ≤ row) × (row < length rows) × (entry rows row col ≢ 0) × ((i : ℕ) → rank ≤ i → i < row → entry rows i col ≡ 0)
 
 pub best_none : (rows : List (List ℕ)) (rank begin upto : ℕ) → begin ≤ upto → IsBest rows rank begin upto rank rank upto
 best_none rows rank begin upto le = record {
@@ -34,24 +34,24 @@ module _ (rows : List (List ℕ)) (rank begin upto seen row col c : ℕ) (h : Is
     low = h.low;
     high = h.high;
     zeros = at_row col h.zeros (omega (arith, e));
-    first = λ lt. let f = h.first lt in (f.0, omega (arith, f.1), f.2, f.3);
+    first = h.first;
   }
 
   -- a row that is not zero before it
-  pub best_new : rank ≤ seen → c < col → entry rows seen c ≢ 0 → IsBest rows rank begin upto (seen + 1) seen c
-  best_new le lt ne = record {
+  pub best_new : rank ≤ seen → seen < length rows → c < col → entry rows seen c ≢ 0 → IsBest rows rank begin upto (seen + 1) seen c
+  best_new le within lt ne = record {
     low = low;
     high = omega (arith, h.high);
     zeros = at_row c (λ i j ri li lj hj. h.zeros i j ri li lj (omega arith)) (omega arith);
-    first = λ lu. (le, omega arith, ne, λ i ri li. h.zeros i c ri li low lt);
+    first = λ lu. (le, within, ne, λ i ri li. h.zeros i c ri li low lt);
   }
 
-pub best_is : (rows : List (List ℕ)) (rank begin upto seen row col : ℕ) → length rows ≤ seen → seen ≤ length rows → IsBest rows rank begin upto seen row col → col < upto → IsNextPivot rows rank begin upto row col
-best_is rows rank begin upto seen row col ge le h lt =
+pub best_is : (rows : List (List ℕ)) (rank begin upto seen row col : ℕ) → length rows ≤ seen → IsBest rows rank begin upto seen row col → col < upto → IsNextPivot rows rank begin upto row col
+best_is rows rank begin upto seen row col ge h lt =
     let f = h.first lt in
     record {
       low = f.0;
-      within = omega (arith, f.1, le);
+      within = f.1;
       after = h.low;
       before = lt;
       nonzero = f.2;

@@ -26,7 +26,7 @@ pub fn reduce_rows<F: Field, L: Ledger>(
 {
     let mut rank = 0;
     let mut begin = 0;
-    for _turn in 0..upto {
+    for turn in 0..upto {
         match find_pivot(entries, shape, rank, begin, upto) {
             None => return rank,
             Some(at) => {

@@ -35,7 +35,7 @@ fn put_rows<F: Field>(from: &Matrix<F>, places: &[u32], whole: &mut Matrix<F>)
     ensures cols { whole.new.cols ≡ whole.old.cols }
     ensures rows { whole.new.rows ≡ put_rows places.now from.now.rows whole.old.rows }
 {
-    for index in 0..places.len() {
-        whole.put_row(places[index], from, index as u32);
+    for index in 0..from.rows() {
+        whole.put_row(places[index as usize], from, index);
     }
 }
