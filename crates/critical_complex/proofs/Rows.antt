@@ -43,8 +43,8 @@ pub record IsMixed (us : List Kind) (before after now seen : List ℕ) : Type 0 
   pub put : (c : ℕ) → c < criticals us → holds seen (place_of us c + 1) ≡ true → get_or now c 0 ≡ get_or after c 0
   pub none : (c : ℕ) → c < criticals us → holds seen (place_of us c + 1) ≡ false → get_or now c 0 ≡ get_or before c 0
 
-pub mixed_begun : (us : List Kind) (before after found : List ℕ) → length before ≡ criticals us → IsMixed us before after before (take 0 found)
-mixed_begun us before after found l = record { long = l; put = λ c lc e. absurd (false≢true e); none = λ c lc e. refl }
+pub mixed_begun : (us : List Kind) (before after : List ℕ) → length before ≡ criticals us → IsMixed us before after before []
+mixed_begun us before after l = record { long = l; put = λ c lc e. absurd (false≢true e); none = λ c lc e. refl }
 
 module _ (us : List Kind) (before after now new xs found : List ℕ) (C : HasColumns us xs) (i p v : ℕ) (l : i < length found) (e : get_or found i 0 ≡ p + 1) (lp : p < length us) where
   -- at a critical cell
@@ -93,6 +93,10 @@ mixed_done us before after now found i l la same h =
       | inr m ↦ h.none c lk (ap (λ (ys : List ℕ). holds ys (place_of us c + 1)) all ∙ m) ∙ same c lk m
     ])
 
+-- it is zero where nothing was seen and zeros stood
+pub mixed_off : (us : List Kind) (before after now found : List ℕ) (i : ℕ) → length found ≤ i → ((c : ℕ) → c < criticals us → get_or before c 0 ≡ 0) → IsMixed us before after now (take i found) → IsZeroOff us found now
+mixed_off us before after now found i l z h c lc m = h.none c lc (ap (λ (ys : List ℕ). holds ys (place_of us c + 1)) (take_all i found l) ∙ m) ∙ z c lc
+
 -- ---- the coboundary of a cochain, at the critical cells
 
 module _ (F : Ops) (L : IsField F) (s next : Stage) (P : IsPaired F s next) (x : List ℕ) where
@@ -120,8 +124,8 @@ module _ (F : Ops) (L : IsField F) (s next : Stage) (P : IsPaired F s next) (x :
   pub some_value : (p col : ℕ) → col < criticals next.kinds → place_of next.kinds col ≡ p → dot F x (column p s.rows) ≢ 0 → is_nonzero target ≡ true
   some_value p col lc e ne = nonzero_at target col (λ z. ne (value_at p col lc e ∙ z))
 
-zeros_set : (n i : ℕ) → set (replicate n 0) i 0 ≡ replicate n 0
-zeros_set n i = same_number_lists (set (replicate n 0) i 0) (replicate n 0) (length-set (replicate n 0) i 0)
+zeros_set : (n i : ℕ) → set (replicate {A = ℕ} n 0) i 0 ≡ replicate n 0
+zeros_set n i = same_number_lists (set (replicate {A = ℕ} n 0) i 0) (replicate n 0) (length-set (replicate {A = ℕ} n 0) i 0)
     (λ c lc.
     let lk : c < n = omega (arith, lc, length-set (replicate {A = ℕ} n 0) i 0, length-replicate {A = ℕ} n 0) in
     elim (cases_eq c i) [
@@ -138,8 +142,8 @@ zeros_kept us n p col v now new z here other none =
     ]
 
 -- whether the values are not zero, by what was seen
-pub told : (n : ℕ) (some : Bool) (values target : List ℕ) → values ≡ target → (some ≡ true → is_nonzero target ≡ true) → (some ≡ false → values ≡ replicate n 0) → some ≡ is_nonzero values
-told n some values target e yes_some no_some =
+pub told : (n : ℕ) (some : Bool) (values wanted : List ℕ) → values ≡ wanted → (some ≡ true → is_nonzero wanted ≡ true) → (some ≡ false → values ≡ replicate n 0) → some ≡ is_nonzero values
+told n some values wanted e yes_some no_some =
     elim (cases_Bool some) [
       | inl b ↦ b ∙ (sym (yes_some b) ∙ ap is_nonzero (sym e))
       | inr b ↦ b ∙ (sym (zeros_are_none n) ∙ ap is_nonzero (sym (no_some b)))
@@ -164,7 +168,7 @@ no_columns F L s next P rows cols e z a l = record {
 -- ---- the reduced rows that are not zero, row by row
 
 module _ (F : Ops) (L : IsField F) (s next : Stage) where
-  none_filled : (f : Filled) → f.places ≡ [] → f.cols ≡ criticals next.kinds → f.rows ≡ [] → IsFilledTo F s next 0 f
+  pub none_filled : (f : Filled) → f.places ≡ [] → f.cols ≡ criticals next.kinds → f.rows ≡ [] → IsFilledTo F s next 0 f
   none_filled f p c r = record { all = []; long = refl; each = λ i lt. absurd (omega (arith, lt)); cols = c; rows = r; places = p }
 
   pub filled_few : (count : ℕ) (f : Filled) → IsFilledTo F s next count f → length f.rows ≤ count
@@ -205,7 +209,7 @@ module _ (F : Ops) (L : IsField F) (s next : Stage) where
       ]
 
   module _ (P : IsPaired F s next) where
-    row_is_vector : (i : ℕ) (v : List ℕ) → IsRowOf F s next i v → IsVector F (criticals next.kinds) v
+    pub row_is_vector : (i : ℕ) (v : List ℕ) → IsRowOf F s next i v → IsVector F (criticals next.kinds) v
     row_is_vector i v r =
         subst (IsVector F (criticals next.kinds)) (sym r.is)
         (part-vector F L next.kinds (length next.kinds) (combination F (length next.kinds) r.y s.rows) refl (combination-vector F L (length next.kinds) r.y s.rows P.matching.matrix))

@@ -21,8 +21,6 @@ impl<F: Field> Model for Filled<F> {
     ghost Value = { Filled };
 
     ghost view = { λ s. record { places = s.places.items; cols = s.rows.cols; rows = s.rows.rows } };
-
-    ghost invariant = { λ s. ⊤ };
 }
 
 impl<F: Field> Filled<F> {

@@ -100,7 +100,9 @@ impl<F: Field> Reduced<F> {
         ensures rows { IfOk result (λ m. IsReducedAt F.ops self.now dim m.rows) }
         ensures splitting { IsSplitting F.ops self.now }
     {
-        self.filled[dim as usize].whole(alloc, self.stages[dim as usize].criticals())
+        let count = self.stages[dim as usize].criticals();
+        let whole = self.filled[dim as usize].whole(alloc, count)?;
+        Ok(whole)
     }
 
     /// The one cochain that has these values at the critical cells and is 0 on uppers, and whose coboundary
