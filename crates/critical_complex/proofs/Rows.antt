@@ -258,6 +258,7 @@ module _ (F : Ops) (L : IsField F) (s next : Stage) where
         zeros_none : (n : ℕ) → (nonzero_rows (replicate n (replicate 0 0)) ≡ []) × ((p : ℕ) → places_from p (replicate n (replicate 0 0)) ≡ [])
         zeros_none zero = (refl, λ p. refl)
         zeros_none (suc n) = let r = zeros_none n in (r.0, λ p. r.1 (p + 1))
+
         nil_matrix : (n : ℕ) → IsMatrix F 0 (replicate n (replicate 0 0))
         nil_matrix zero = tt
         nil_matrix (suc n) = (record { long = refl; elements = tt }, nil_matrix n)

@@ -37,12 +37,7 @@ impl<F: Field> Filled<F> {
     }
 
     /// Puts a row with its place last, where it is not zero.
-    pub(crate) fn push(
-        &mut self,
-        place: u32,
-        values: &Row<F>,
-        some: bool,
-    ) -> Result<(), AllocError>
+    pub(crate) fn push(&mut self, place: u32, values: &Row<F>, some: bool) -> Result<(), AllocError>
         requires values { length values.now ≡ self.old.cols }
         requires few { length self.old.rows < 4294967295 }
         ensures cols { OnOk result (self.new.cols ≡ self.old.cols) }

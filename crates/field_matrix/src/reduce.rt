@@ -49,13 +49,7 @@ struct Pivot {
 
 /// The first column from `begin` on, before `upto`, at which a row from `rank` on is not zero, and the first such
 /// row. Each row is read along, and no further than to the best column so far.
-fn find_pivot(
-    entries: &[u8],
-    shape: Shape,
-    rank: usize,
-    begin: usize,
-    upto: usize,
-) -> Option<Pivot>
+fn find_pivot(entries: &[u8], shape: Shape, rank: usize, begin: usize, upto: usize) -> Option<Pivot>
     requires shape { length entries.now ≡ shape.rows * shape.cols }
     requires begin { begin ≤ upto }
     requires upto { upto ≤ shape.cols }

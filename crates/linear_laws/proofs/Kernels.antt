@@ -36,7 +36,7 @@ module _ (k : Ops) (f : IsField k) where
       ap (λ (ds : List ℕ). combination k n ds rows) (sym (take-append-drop r cs))
       ∙ (ap (combination k n (take r cs ++ drop r cs)) (sym (take-append-drop r rows))
       ∙ combination-append k f n (take r cs) (drop r cs) (take r rows) (drop r rows) (all_take (IsVector k n) r rows a) (all_drop (IsVector k n) r rows a)
-        (length-take-le r cs (omega (arith, l, le)) ∙ sym (length-take-le r rows le)))
+      (length-take-le r cs (omega (arith, l, le)) ∙ sym (length-take-le r rows le)))
 
   -- the later ones of independent vectors are independent
   later_independent : (n : ℕ) (xs ys : List (List ℕ)) → IsMatrix k n (xs ++ ys) → IsIndependent k n (xs ++ ys) → IsIndependent k n ys
@@ -204,8 +204,8 @@ module _ (k : Ops) (f : IsField k) where
           record { long = lc; elements = all_drop (λ x. x < k.size) q p.coefficients p.vector.elements },
           basis.span.back b (record { coefficients = gs; vector = vg; is = refl }),
           sym p.is
-          ∙ (ap (λ (c : List ℕ). combination k N c (bs ++ ws)) (sym (take-append-drop q p.coefficients))
-          ∙ (combination-append k f N gs cs bs ws bs_matrix ws_matrix lg ∙ plus_turned W b (vW.long ∙ sym vb.long) vW.elements vb.elements)),
+              ∙ (ap (λ (c : List ℕ). combination k N c (bs ++ ws)) (sym (take-append-drop q p.coefficients))
+              ∙ (combination-append k f N gs cs bs ws bs_matrix ws_matrix lg ∙ plus_turned W b (vW.long ∙ sym vb.long) vW.elements vb.elements)),
         )
 
     unique : (cs : List ℕ) → IsVector k (length ws) cs → InSpan k N last (combination k N cs ws) → cs ≡ replicate (length ws) 0
