@@ -8,7 +8,6 @@ use Rattle.linear_laws.specs.Marks.{mark}
 use Rattle.linear_laws.specs.Vectors.{dot, column, combination, plus_scaled, row_at, IsVector, IsMatrix}
 use Rattle.small_field.specs.Values.{AreElements}
 use Rattle.linear_laws.proofs.CallerLemmas.{all_at, entry_combination, combination-vector, zeros-elements, plus_scaled-long, dot_below}
-use Rattle.std.specs.List.{AllByRecursion}
 use Rattle.split_laws.specs.declared.kind.Kind.TheVariants.{Critical, Lower, Upper}
 use Rattle.critical_complex.proofs.Pairwise.{triangular_at}
 use Rattle.split_laws.specs.declared.kind.Kind.{Kind}

@@ -11,7 +11,7 @@
 --   IsFilledAt F stages degree places       the places are those of the reduced rows that are not zero; they count from 0
 --   AreFilledAt F stages degree rows        the rows are the reduced rows that are not zero, in their order
 --   AreFilled F stages count filled         both, for each of the first degrees
-use Rattle.std.specs.Prelude.{◌≡◌, ℕ, zero, suc, ◌+◌, ◌<◌, List, [], Bool, length, slice_index_or}
+use Rattle.std.specs.Prelude.{◌≡◌, ℕ, zero, suc, ◌+◌, ◌<◌, List, Bool, length, slice_index_or}
 use Rattle.face_poset.specs.Poset.{Layers}
 use Rattle.small_field.specs.Field.{Ops}
 use Rattle.linear_laws.specs.ZeroRows.{nonzero_rows, nonzero_places}

@@ -1,8 +1,8 @@
 -- The search for the next pivot.
-use Rattle.std.proofs.Common.{◌≡◌, ◌≢◌, ℕ, ◌+◌, ◌<◌, ◌≤◌, List, length, get_or, sym, ap, ◌∙◌, arith, subst}
+use Rattle.std.proofs.Common.{◌≡◌, ◌≢◌, ℕ, ◌+◌, ◌<◌, ◌≤◌, List, length, arith, subst}
 use native.Mathlib.Decide.{dec_lt}
 use Prim.{yes, no}
-use Rattle.linear_laws.specs.Vectors.{entry, row_at}
+use Rattle.linear_laws.specs.Vectors.{entry}
 use Rattle.field_matrix.specs.Steps.{IsNextPivot, ZerosBetween}
 
 -- the rows from `rank` on that were seen are zero before the column; it is `upto`, or the row is the first that is not zero there

@@ -1,7 +1,6 @@
 use Rattle.std.proofs.Common.{◌≡◌, ℕ, zero, suc, ◌+◌, ◌<◌, List, [], ◌∷◌, ◌++◌, length, length-append, map, take, drop, replicate, get_or, true, false, refl, ap, sym, ◌∙◌, arith, subst}
 use Rattle.std.proofs.lemmas.Simd.{length-replicate}
 use Rattle.std.proofs.lemmas.List.{length-map, take_at, get_or-take, drop_at}
-use Rattle.std.proofs.lemmas.Bool.Decides.{nat_tests}
 use Rattle.small_field.specs.Field.{Ops, IsField}
 use Rattle.linear_laws.specs.Marks.{identity, beside, lefts}
 use Rattle.linear_laws.specs.Vectors.{IsVector, IsMatrix, InSpan, plus_scaled, combination}

@@ -1,5 +1,5 @@
 -- Bases of kernels by the history of a reduction, and bases modulo coboundaries by kernels.
-use Rattle.std.proofs.Common.{◌≡◌, ℕ, zero, suc, ◌+◌, ◌-◌, ◌<◌, ◌≤◌, List, [], ◌∷◌, ◌++◌, length, length-append, length-drop, map, take, drop, replicate, get_or, refl, ap, sym, ◌∙◌, arith, subst}
+use Rattle.std.proofs.Common.{◌≡◌, ℕ, ◌+◌, ◌-◌, ◌<◌, ◌≤◌, List, [], ◌∷◌, ◌++◌, length, length-append, length-drop, map, take, drop, replicate, get_or, refl, ap, sym, ◌∙◌, arith, subst}
 use Rattle.std.specs.List.{AllByRecursion}
 use Rattle.std.proofs.lemmas.Simd.{length-replicate, get_or-replicate}
 use Rattle.std.proofs.lemmas.List.{length-map, length-take-le, take-append-drop, get_or-drop, get_or-map, get_or_default, ext_get_or, drop_at}
@@ -7,12 +7,10 @@ use Rattle.std.proofs.lemmas.List.Elements.{recursion_from_All}
 use Rattle.small_field.specs.Field.{Ops, IsField}
 use Rattle.small_field.specs.Values.{AreElements}
 use Rattle.small_field.proofs.CallerLemmas.{neg_neg}
-use Rattle.linear_laws.specs.Vectors.{dot, IsVector, IsMatrix, IsBasis, plus_scaled, combination, InSpan, IsIndependent, IsInKernel, IsKernelBasis, IsHistory, row_at}
+use Rattle.linear_laws.specs.Vectors.{IsVector, IsMatrix, IsBasis, plus_scaled, combination, InSpan, IsIndependent, IsInKernel, IsKernelBasis, IsHistory, row_at}
 use Rattle.linear_laws.specs.Echelon.{IsReducedTo}
-use Rattle.linear_laws.specs.Betti.{IsCohomologyBasis}
-use Rattle.linear_laws.specs.Triangle.{Triangle, TriangleOver}
 use Rattle.linear_laws.specs.Laws.{HistoryGivesKernel, KernelsComplete, IndependentSpan, TrianglesCertify}
-use Rattle.linear_laws.proofs.Span.{combination-vector, combination-zeros, combination-plus, plus_scaled-vector, zeros-elements, one_times, taken_back, span_rows, span_within}
+use Rattle.linear_laws.proofs.Span.{combination-vector, combination-zeros, combination-plus, plus_scaled-vector, zeros-elements, one_times, taken_back, span_rows}
 use Rattle.linear_laws.proofs.Dimension.{combination_twice}
 use Rattle.linear_laws.proofs.Betti.{in_span_trans, combination-append, plus_zeros, pivots_independent, few}
 use Rattle.linear_laws.proofs.Halves.{drop_zeros, combination_of_zeros}

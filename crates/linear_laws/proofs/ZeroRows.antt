@@ -1,5 +1,5 @@
 -- Rows that are not zero, among rows of zeros.
-use Rattle.std.proofs.Common.{◌≡◌, ◌≢◌, ℕ, zero, suc, ◌+◌, ◌-◌, ◌<◌, ◌≤◌, inl, inr, true, false, Bool, cond, filter, List, [], ◌∷◌, ◌++◌, length, length-append, replicate, get_or, set, append_assoc, refl, ap, sym, ◌∙◌, arith, subst}
+use Rattle.std.proofs.Common.{◌≡◌, ◌≢◌, ℕ, zero, suc, ◌+◌, ◌-◌, ◌<◌, ◌≤◌, inl, inr, true, false, Bool, cond, List, [], ◌∷◌, ◌++◌, length, length-append, replicate, get_or, set, append_assoc, refl, ap, sym, ◌∙◌, arith, subst}
 use Rattle.std.specs.List.{AllByRecursion}
 use Rattle.std.proofs.lemmas.Bool.{cases_Bool}
 use Rattle.std.proofs.lemmas.Bool.Decides.{nat_tests}
@@ -9,7 +9,7 @@ use Rattle.std.proofs.lemmas.Simd.{length-replicate}
 use native.Mathlib.Decide.{dec_lt}
 use Prim.{yes, no}
 use Rattle.small_field.specs.Field.{Ops, IsField}
-use Rattle.linear_laws.specs.Vectors.{IsVector, IsMatrix, InSpan, SameSpan, row_at, entry}
+use Rattle.linear_laws.specs.Vectors.{IsVector, IsMatrix, InSpan, SameSpan, entry}
 use Rattle.linear_laws.specs.Echelon.{is_nonzero, IsReducedTo, IsReducedBelow}
 use Rattle.linear_laws.specs.ZeroRows.{nonzero_rows, places_from, nonzero_places, put_rows, among_zeros, ZeroRowsLaws}
 use Rattle.linear_laws.proofs.Alls.{all_append}

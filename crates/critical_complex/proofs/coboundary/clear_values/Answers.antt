@@ -1,4 +1,4 @@
-use Rattle.std.proofs.Common.{◌≡◌, ◌-◌, ◌+◌, ◌<◌, ◌≤◌, ℕ, List, length, replicate, get_or, take, sym, ap, ◌∙◌, subst, arith}
+use Rattle.std.proofs.Common.{◌≡◌, ◌-◌, ◌+◌, ◌<◌, ◌≤◌, ℕ, List, length, replicate, get_or, sym, ◌∙◌, subst, arith}
 use Rattle.std.proofs.lemmas.Simd.{length-replicate, get_or-replicate}
 use Rattle.split_laws.specs.Kinds.{criticals}
 use Rattle.critical_complex.specs.Reaches.{HasColumns}

@@ -1,4 +1,3 @@
-use Rattle.std.proofs.Common.{ℕ, ◌<◌, ◌≤◌}
 use Rattle.field_matrix.specs.Rows.{cut}
 use Rattle.field_matrix.proofs.Pivots.{IsBest}
 use Rattle.field_matrix.proofs.reduce.find_pivot.Given as goal

@@ -1,7 +1,7 @@
-use Rattle.std.proofs.Common.{◌≡◌, ◌≢◌, ℕ, ◌+◌, ◌*◌, ◌<◌, ◌≤◌, List, length, arith, sym, ap, ◌∙◌, subst}
+use Rattle.std.proofs.Common.{◌≡◌, ℕ, ◌+◌, ◌*◌, ◌<◌, ◌≤◌, List, length, arith, sym, ◌∙◌, subst}
 use Rattle.linear_laws.specs.Echelon.{IsReducedTo}
 use Rattle.field_matrix.specs.Rows.{cut}
-use Rattle.field_matrix.specs.Steps.{IsCleared, IsBroughtUp, IsNextPivot, IsPivotRow}
+use Rattle.field_matrix.specs.Steps.{IsCleared, IsBroughtUp, IsNextPivot}
 use Rattle.field_matrix.proofs.Cut.{length-cut}
 use Rattle.field_matrix.proofs.Reduced.{reduced_none, reduced_more, zero_before}
 use Rattle.field_matrix.proofs.reduce.reduce_rows.Goals as goal

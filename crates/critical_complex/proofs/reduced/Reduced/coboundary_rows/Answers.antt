@@ -1,9 +1,9 @@
-use Rattle.std.proofs.Common.{◌≡◌, ◌<◌, ◌≤◌, ◌+◌, ℕ, List, length, get_or, ap, sym, subst, ◌∙◌, arith}
+use Rattle.std.proofs.Common.{◌≡◌, ◌≤◌, ◌+◌, ℕ, List, length, get_or, ap, subst, ◌∙◌, arith}
 use Rattle.std.proofs.lemmas.List.{get_or_default}
 use Rattle.split_laws.specs.Kinds.{criticals}
 use Rattle.critical_complex.specs.Stages.{Stage, empty_stage}
 use Rattle.critical_complex.specs.Filled.{Filled, no_filled}
-use Rattle.critical_complex.specs.Splits.{stage_at, kinds_at, IsReducedAt}
+use Rattle.critical_complex.specs.Splits.{kinds_at, IsReducedAt}
 use Rattle.critical_complex.proofs.Kept.{kept, many, within, whole_is}
 use Rattle.critical_complex.proofs.reduced.Reduced.coboundary_rows.Goals as goal
 

@@ -1,4 +1,4 @@
-use Rattle.std.proofs.Common.{ℕ, List, refl, subst}
+use Rattle.std.proofs.Common.{refl, subst}
 use Rattle.face_poset.specs.Poset.{Layers}
 use Rattle.critical_complex.specs.Splits.{AreFilled}
 use Rattle.critical_complex.proofs.Matching.{splitting, degrees_of}
