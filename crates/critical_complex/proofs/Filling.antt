@@ -8,7 +8,6 @@ use Rattle.linear_laws.specs.Marks.{mark}
 use Rattle.linear_laws.specs.Vectors.{dot, column, combination, plus_scaled, row_at, IsVector, IsMatrix}
 use Rattle.small_field.specs.Values.{AreElements}
 use Rattle.linear_laws.proofs.CallerLemmas.{all_at, entry_combination, combination-vector, zeros-elements, plus_scaled-long, dot_below}
-use Rattle.std.specs.List.{AllByRecursion}
 use Rattle.split_laws.specs.declared.kind.Kind.TheVariants.{Critical, Lower, Upper}
 use Rattle.critical_complex.proofs.Pairwise.{triangular_at}
 use Rattle.split_laws.specs.declared.kind.Kind.{Kind}
@@ -18,7 +17,6 @@ use Rattle.split_laws.specs.Pairs.{settle}
 use Rattle.split_laws.specs.Solutions.{IsExtension, IsReducedBy, IsCleared, without}
 use Rattle.split_laws.proofs.CallerLemmas.{plus_none, part-long, spread_long, spread_elements, spread_own, spread_none, extended, split_of_field, cleared, settled-vector, extension_is_one}
 use Rattle.critical_complex.specs.Stages.{Stage, IsPaired, place_of}
-use Rattle.critical_complex.specs.Blanks.{HasRow}
 use Rattle.critical_complex.proofs.Placed.{place_below, part_at}
 
 module _ (F : Ops) (L : IsField F) where
@@ -35,22 +33,6 @@ module _ (F : Ops) (L : IsField F) where
   target_long m rows us x a l = part-long us (combination F m x rows) ((combination-vector F L m x rows a).long ∙ sym l)
 
   module _ (s next : Stage) (P : IsPaired F s next) where
-    -- ---- row by row
-
-    pub rows_more : (old new : List (List ℕ)) (row : ℕ) → row < length old → HasRow F s next old new row
-        → ((j : ℕ) → j < row → (y : List ℕ) × IsExtension F (length s.kinds) (length next.kinds) s.rows s.kinds next.kinds (mark (criticals s.kinds) j) y × (row_at old j ≡ part next.kinds (combination F (length next.kinds) y s.rows)))
-        → (j : ℕ) → j < row + 1 → (y : List ℕ) × IsExtension F (length s.kinds) (length next.kinds) s.rows s.kinds next.kinds (mark (criticals s.kinds) j) y × (row_at new j ≡ part next.kinds (combination F (length next.kinds) y s.rows))
-    rows_more old new row lt h before j lj =
-        let r : List ℕ = part next.kinds (combination F (length next.kinds) h.y s.rows) in
-        elim (cases_eq j row) [
-          | inl b ↦ (
-            h.y,
-            subst (λ (k : ℕ). IsExtension F (length s.kinds) (length next.kinds) s.rows s.kinds next.kinds (mark (criticals s.kinds) k) h.y) (sym b) h.extension,
-            ap (row_at new) b ∙ (ap (λ (x : List (List ℕ)). get_or x row []) h.is ∙ get_or-set_same old row r [] lt),
-          )
-          | inr b ↦ let k = before j (omega arith) in (k.0, k.1, ap (λ (x : List (List ℕ)). get_or x j []) h.is ∙ (get_or-set_other old row j r [] b ∙ k.2))
-        ]
-
     pub rows_final : (rows : List (List ℕ)) (count : ℕ) → IsMatrix F (criticals next.kinds) rows → length rows ≡ criticals s.kinds → criticals s.kinds ≤ count
         → ((j : ℕ) → j < count → (y : List ℕ) × IsExtension F (length s.kinds) (length next.kinds) s.rows s.kinds next.kinds (mark (criticals s.kinds) j) y × (row_at rows j ≡ part next.kinds (combination F (length next.kinds) y s.rows)))
         → IsReducedBy F (length s.kinds) (length next.kinds) s.rows s.kinds next.kinds rows

@@ -3,6 +3,7 @@ mod ColumnLemmas
 mod Filling
 mod Flows
 mod Indexed
+mod Kept
 mod KindLemmas
 mod Matching
 mod Pairwise

@@ -16,12 +16,11 @@ use Rattle.vector_field.proofs.CallerLemmas.{Lined, lined-two, Goes, lined-from,
 use Rattle.split_laws.specs.declared.kind.Kind.{Kind}
 use Rattle.split_laws.specs.declared.kind.Kind.TheVariants.{Critical, Lower, Upper}
 use Rattle.split_laws.specs.declared.matching.Match.{Match}
-use Rattle.split_laws.specs.Kinds.{criticals, HasNoUpper}
+use Rattle.split_laws.specs.Kinds.{HasNoUpper}
 use Rattle.split_laws.specs.Pairs.{Triangular, HasLower, HasUpper, IsMatching, kind_at}
 use Rattle.critical_complex.specs.Stages.{Stage, IsPaired, empty_stage}
-use Rattle.critical_complex.specs.Splits.{IsReductionOf, IsSplitting, IsMatrixOf, AreMatrices, no_rows, stage_at}
-use Rattle.field_matrix.specs.Rows.{Rows}
-use Rattle.split_laws.specs.Solutions.{IsReducedBy}
+use Rattle.critical_complex.specs.Splits.{IsReductionOf, IsSplitting, AreFilled, stage_at}
+use Rattle.critical_complex.specs.Filled.{Filled, no_filled, IsFilledBy}
 use Rattle.std.proofs.lemmas.List.{length-append, get_or_append_left}
 use Rattle.std.proofs.Math.Seq.{get_or-append_seam}
 use Rattle.critical_complex.proofs.KindLemmas.{critical_no_lower, critical_no_upper, lower_no_upper, upper_no_lower}
@@ -267,18 +266,17 @@ stages_more F space negative pairs stages now s i l before last e = (
       ])),
 )
 
-pub matrices_more : (F : Ops) (stages : List Stage) (i : ℕ) (matrices now : List Rows) (m : Rows) (s next : Stage) → AreMatrices F stages i matrices → s ≡ stage_at stages i → next ≡ stage_at stages (suc i)
-    → m.cols ≡ criticals next.kinds → IsReducedBy F (length s.kinds) (length next.kinds) s.rows s.kinds next.kinds m.rows → now ≡ matrices ++ m ∷ [] → AreMatrices F stages (i + 1) now
-matrices_more F stages i matrices now m s next h es en cols rows e = record {
-  long = ap (λ (xs : List Rows). length xs) e ∙ (length-append matrices (m ∷ []) ∙ ap (λ (n : ℕ). n + 1) h.long);
+pub filled_more : (F : Ops) (stages : List Stage) (i : ℕ) (filled now : List Filled) (f : Filled) (s next : Stage) → AreFilled F stages i filled → s ≡ stage_at stages i → next ≡ stage_at stages (suc i)
+    → IsFilledBy F s next f → now ≡ filled ++ f ∷ [] → AreFilled F stages (i + 1) now
+filled_more F stages i filled now f s next h es en last e = record {
+  long = ap (λ (xs : List Filled). length xs) e ∙ (length-append filled (f ∷ []) ∙ ap (λ (n : ℕ). n + 1) h.long);
   each = λ j lj.
-      subst (λ (xs : List Rows). IsMatrixOf F (stage_at stages j) (stage_at stages (suc j)) (get_or xs j no_rows)) (sym e)
+      subst (λ (xs : List Filled). IsFilledBy F (stage_at stages j) (stage_at stages (suc j)) (get_or xs j no_filled)) (sym e)
       (elim (cases_eq j i) [
         | inl b ↦
-            let last : IsMatrixOf F s next m = record { cols = cols; reduced = rows } in
-            let there : IsMatrixOf F (stage_at stages i) (stage_at stages (suc i)) m = subst (λ (t : Stage). IsMatrixOf F t (stage_at stages (suc i)) m) es (subst (λ (t : Stage). IsMatrixOf F s t m) en last) in
-            subst (λ (n : ℕ). IsMatrixOf F (stage_at stages n) (stage_at stages (suc n)) (get_or (matrices ++ m ∷ []) n no_rows)) (sym b)
-            (subst (IsMatrixOf F (stage_at stages i) (stage_at stages (suc i))) (sym (ap (λ (n : ℕ). get_or (matrices ++ m ∷ []) n no_rows) (sym h.long) ∙ get_or-append_seam matrices m [] no_rows)) there)
-        | inr b ↦ subst (IsMatrixOf F (stage_at stages j) (stage_at stages (suc j))) (sym (get_or_append_left matrices (m ∷ []) no_rows j (let l : length matrices ≡ i = h.long in omega arith))) (h.each j (omega arith))
+            let there : IsFilledBy F (stage_at stages i) (stage_at stages (suc i)) f = subst (λ (t : Stage). IsFilledBy F t (stage_at stages (suc i)) f) es (subst (λ (t : Stage). IsFilledBy F s t f) en last) in
+            subst (λ (n : ℕ). IsFilledBy F (stage_at stages n) (stage_at stages (suc n)) (get_or (filled ++ f ∷ []) n no_filled)) (sym b)
+            (subst (IsFilledBy F (stage_at stages i) (stage_at stages (suc i))) (sym (ap (λ (n : ℕ). get_or (filled ++ f ∷ []) n no_filled) (sym h.long) ∙ get_or-append_seam filled f [] no_filled)) there)
+        | inr b ↦ subst (IsFilledBy F (stage_at stages j) (stage_at stages (suc j))) (sym (get_or_append_left filled (f ∷ []) no_filled j (let l : length filled ≡ i = h.long in omega arith))) (h.each j (omega arith))
       ]);
 }

@@ -1,10 +1,11 @@
--- What the contracts mean: Splits, Stages, Signed, Units.
+-- What the contracts mean: Splits, Stages, Signed, Units, and of Filled the rows that are not zero.
 -- What the code keeps for itself: Columns, Reaches, Blanks.
 -- Words of lower crates that these speak of stand at the end.
 pub mod Splits
 pub mod Stages
 pub mod Signed
 pub mod Units
+pub mod Filled
 pub mod Columns
 pub mod Reaches
 pub mod Blanks

@@ -2,6 +2,7 @@
 -- places count from 0. s and next are two degrees, ps and qs pairs by places, us the kinds of the cells above, xs their indexes,
 -- found the cells above that were found.
 --   HasPair ps xs j                    the index at the place j is that of a pair with its upper there
+--   HasColumns us xs                   at each critical cell its index among the critical ones
 --   AreIndexes ps us xs                at each upper the index of its pair, at each critical cell its index among the critical ones
 --   AreDegrees F space negative dim s next   two degrees of a signed set
 --   HasMore old new                    what was found is kept, and what is more stands after it
@@ -39,11 +40,15 @@ pub record HasPair (ps : List Match) (xs : List ℕ) (j : ℕ) : Type 0 where
   pub within : slice_index xs j < length ps
   pub upper : (pair_at ps (slice_index xs j)).upper ≡ j
 
+-- at each critical cell its index among the critical ones
+abbrev pub HasColumns : (us : List Kind) → (xs : List ℕ) → Type 0
+HasColumns us xs = (j : ℕ) → j < length us → kind_at us j ≡ Critical → (slice_index xs j < criticals us) × (place_of us (slice_index xs j) ≡ j)
+
 -- at each upper the index of its pair, and at each critical cell its index among the critical ones
 pub record AreIndexes (ps : List Match) (us : List Kind) (xs : List ℕ) : Type 0 where
   pub long : length xs ≡ length us
   pub upper : (j : ℕ) → j < length us → kind_at us j ≡ Upper → HasPair ps xs j
-  pub critical : (j : ℕ) → j < length us → kind_at us j ≡ Critical → (slice_index xs j < criticals us) × (place_of us (slice_index xs j) ≡ j)
+  pub critical : HasColumns us xs
 
 -- ---- the search; cells above are numbered from 1
 

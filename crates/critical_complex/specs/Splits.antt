@@ -8,18 +8,20 @@
 --   IsReducedAt F stages degree rows        the rows are the coboundaries of the extensions, at the critical cells
 --   IsFlowAt F stages degree c z            z is the flow of the values c at the critical cells of a degree
 --   IsClearedAt F stages degree x w y       w is left of x at the critical cells less the coboundary of y
---   IsMatrixOf F s next m                   a matrix of the coboundaries of extensions
---   AreMatrices F stages count matrices     one for each degree
-use Rattle.std.specs.Prelude.{◌≡◌, ℕ, zero, suc, ◌+◌, ◌<◌, List, [], Bool, length, slice_index_or}
+--   IsFilledAt F stages degree places       the places are those of the reduced rows that are not zero; they count from 0
+--   AreFilledAt F stages degree rows        the rows are the reduced rows that are not zero, in their order
+--   AreFilled F stages count filled         both, for each of the first degrees
+use Rattle.std.specs.Prelude.{◌≡◌, ℕ, zero, suc, ◌+◌, ◌<◌, List, Bool, length, slice_index_or}
 use Rattle.face_poset.specs.Poset.{Layers}
 use Rattle.small_field.specs.Field.{Ops}
-use Rattle.field_matrix.specs.Rows.{Rows}
+use Rattle.linear_laws.specs.ZeroRows.{nonzero_rows, nonzero_places}
 use Rattle.face_poset.specs.declared.cells.Pair.{Pair}
 use Rattle.split_laws.specs.declared.kind.Kind.{Kind}
-use Rattle.split_laws.specs.Kinds.{criticals, HasNoUpper}
+use Rattle.split_laws.specs.Kinds.{HasNoUpper}
 use Rattle.split_laws.specs.Solutions.{IsCleared, IsExtension, IsFlow, IsReducedBy}
 use Rattle.critical_complex.specs.Stages.{Stage, empty_stage, IsPaired}
 use Rattle.critical_complex.specs.Signed.{IsStageOf}
+use Rattle.critical_complex.specs.Filled.{Filled, no_filled, IsFilledBy}
 
 abbrev pub stage_at : List Stage → (degree : ℕ) → Stage
 stage_at stages degree = slice_index_or stages degree empty_stage
@@ -69,14 +71,16 @@ IsClearedAt F stages degree x w y =
     let last : Stage = stage_before stages degree in
     IsCleared F (length last.kinds) (cells_at stages degree) last.rows last.kinds (kinds_at stages degree) x w y
 
--- the coboundaries of extensions
-pub record IsMatrixOf (F : Ops) (s next : Stage) (m : Rows) : Type 0 where
-  pub cols : m.cols ≡ criticals next.kinds
-  pub reduced : IsReducedBy F (length s.kinds) (length next.kinds) s.rows s.kinds next.kinds m.rows
+-- ---- the reduced rows that are not zero
 
-abbrev pub no_rows : Rows
-no_rows = record { cols = 0; rows = [] }
+abbrev pub IsFilledAt : Ops → List Stage → (degree : ℕ) → (places : List ℕ) → Type 0
+IsFilledAt F stages degree places = (all : List (List ℕ)) → IsReducedAt F stages degree all → places ≡ nonzero_places all
 
-pub record AreMatrices (F : Ops) (stages : List Stage) (count : ℕ) (matrices : List Rows) : Type 0 where
-  pub long : length matrices ≡ count
-  pub each : (degree : ℕ) → degree < count → IsMatrixOf F (stage_at stages degree) (stage_at stages (suc degree)) (slice_index_or matrices degree no_rows)
+pub record AreFilledAt (F : Ops) (stages : List Stage) (degree : ℕ) (rows : List (List ℕ)) : Type 0 where
+  pub all : List (List ℕ)
+  pub reduced : IsReducedAt F stages degree all
+  pub are : rows ≡ nonzero_rows all
+
+pub record AreFilled (F : Ops) (stages : List Stage) (count : ℕ) (filled : List Filled) : Type 0 where
+  pub long : length filled ≡ count
+  pub each : (degree : ℕ) → degree < count → IsFilledBy F (stage_at stages degree) (stage_at stages (suc degree)) (slice_index_or filled degree no_filled)

@@ -6,6 +6,7 @@
 mod cleared;
 mod coboundary;
 mod columns;
+mod filled;
 mod flow;
 mod indexes;
 mod listing;

@@ -5,10 +5,11 @@ ghost use Rattle.split_laws.specs.Kinds.{criticals};
 ghost use Rattle.critical_complex.specs.Stages.{critical_from, IsPaired};
 ghost use Rattle.critical_complex.specs.Reaches.{AreDegrees};
 ghost use Rattle.critical_complex.specs.Units.{uppers, pair_at, IsTriangular, IsUnitOf, MatchUppers};
-ghost use Rattle.critical_complex.specs.Splits.{stage_at, cells_at, kinds_at, AreMatrices, IsClearedAt, IsExtensionAt, IsFlowAt, IsReducedAt, IsReductionOf, IsSplitting};
+ghost use Rattle.critical_complex.specs.Splits.{stage_at, cells_at, kinds_at, AreFilled, AreFilledAt, IsClearedAt, IsExtensionAt, IsFilledAt, IsFlowAt, IsReducedAt, IsReductionOf, IsSplitting};
 
 use crate::cleared::Cleared;
-use crate::coboundary::coboundary_matrix;
+use crate::coboundary::filled_rows;
+use crate::filled::Filled;
 use crate::flow::{flow, flow_first};
 use crate::stage::Stage;
 use crate::unit::Unit;
@@ -24,19 +25,19 @@ use vector_field::PairList;
 #[derive(Drop)]
 pub struct Reduced<F: Field> {
     stages: Vec<Stage<F>>,
-    matrices: Vec<Matrix<F>>,
+    filled: Vec<Filled<F>>,
 }
 
 impl<F: Field> Model for Reduced<F> {
     ghost use Rattle.std.specs.Prelude.{List};
     ghost use Rattle.critical_complex.specs.Stages.{Stage};
-    ghost use Rattle.critical_complex.specs.Splits.{AreMatrices, IsSplitting};
+    ghost use Rattle.critical_complex.specs.Splits.{AreFilled, IsSplitting};
 
     ghost Value = { List Stage };
 
     ghost view = { λ s. s.stages.items };
 
-    ghost invariant = { λ s. IsSplitting F.ops s.stages.items × AreMatrices F.ops s.stages.items 4 s.matrices.items };
+    ghost invariant = { λ s. IsSplitting F.ops s.stages.items × AreFilled F.ops s.stages.items 4 s.filled.items };
 }
 
 impl<F: Field> Reduced<F> {
@@ -51,8 +52,8 @@ impl<F: Field> Reduced<F> {
         ensures splitting { IfOk result (IsSplitting F.ops) }
     {
         let stages = list_stages(alloc, graded, field)?;
-        let matrices = list_matrices(alloc, graded, &stages)?;
-        Ok(Reduced { stages, matrices })
+        let filled = list_filled(alloc, graded, &stages)?;
+        Ok(Reduced { stages, filled })
     }
 
     /// The critical cells of a degree, increasing.
@@ -64,15 +65,44 @@ impl<F: Field> Reduced<F> {
         self.stages[dim as usize].critical()
     }
 
-    /// A row for each critical cell of a degree, a column for each of one more: the coboundary, at the
-    /// column's cell, of the extension that is 1 at the row's cell and 0 at the other critical cells.
-    pub fn coboundary_rows(&self, dim: u8) -> &Matrix<F>
+    /// How many critical cells of a degree there are.
+    pub fn criticals(&self, dim: u8) -> u32
+        requires { dim ≤ 3 }
+        ensures { result ≡ criticals (kinds_at self.now dim) }
+    {
+        self.stages[dim as usize].criticals()
+    }
+
+    /// The places, from 0 and increasing, of the reduced rows of a degree that are not zero. A reduced row stands
+    /// for each critical cell, with a column for each of one degree more: the coboundary, at the column's cell, of
+    /// the extension that is 1 at the row's cell and 0 at the other critical cells.
+    pub fn filled(&self, dim: u8) -> &[u32]
+        requires { dim ≤ 3 }
+        ensures { IsFilledAt F.ops self.now dim result.now }
+    {
+        self.filled[dim as usize].places()
+    }
+
+    /// The reduced rows of a degree that are not zero, in the order of their places.
+    pub fn filled_rows(&self, dim: u8) -> &Matrix<F>
         requires { dim ≤ 3 }
         ensures cols { result.now.cols ≡ criticals (kinds_at self.now (dim + 1)) }
-        ensures rows { IsReducedAt F.ops self.now dim result.now.rows }
+        ensures rows { AreFilledAt F.ops self.now dim result.now.rows }
         ensures splitting { IsSplitting F.ops self.now }
     {
-        &self.matrices[dim as usize]
+        self.filled[dim as usize].rows()
+    }
+
+    /// All reduced rows of a degree, those that are zero too.
+    pub fn coboundary_rows(&self, alloc: Global, dim: u8) -> Result<Matrix<F>, AllocError>
+        requires { dim ≤ 3 }
+        ensures cols { IfOk result (λ m. m.cols ≡ criticals (kinds_at self.now (dim + 1))) }
+        ensures rows { IfOk result (λ m. IsReducedAt F.ops self.now dim m.rows) }
+        ensures splitting { IsSplitting F.ops self.now }
+    {
+        let count = self.stages[dim as usize].criticals();
+        let whole = self.filled[dim as usize].whole(alloc, count)?;
+        Ok(whole)
     }
 
     /// The one cochain that has these values at the critical cells and is 0 on uppers, and whose coboundary
@@ -155,22 +185,21 @@ fn list_stages<F: Field, G: Signed>(
     Ok(stages)
 }
 
-/// The coboundaries of the extensions, for each degree.
-fn list_matrices<F: Field, G: Signed>(
+/// The coboundaries of the extensions that are not zero, for each degree.
+fn list_filled<F: Field, G: Signed>(
     alloc: Global,
     graded: &G,
     stages: &[Stage<F>],
-) -> Result<Vec<Matrix<F>>, AllocError>
+) -> Result<Vec<Filled<F>>, AllocError>
     requires splitting { IsSplitting F.ops stages.now }
     requires degrees { (degree : ℕ) → degree < 4 → AreDegrees F.ops (G.space graded.now) (G.negative graded.now) degree (stage_at stages.now degree) (stage_at stages.now (suc degree)) }
-    ensures { IfOk result (λ matrices. AreMatrices F.ops stages.now 4 matrices.items) }
+    ensures { IfOk result (λ filled. AreFilled F.ops stages.now 4 filled.items) }
 {
-    let mut matrices = Vec::new(alloc);
+    let mut filled = Vec::new(alloc);
     for dim in 0..4 {
         let stage = &stages[dim as usize];
         let next = &stages[dim as usize + 1];
-        let matrix = coboundary_matrix(alloc, graded, dim, stage, next)?;
-        matrices.push(matrix)?;
+        filled.push(filled_rows(alloc, graded, dim, stage, next)?)?;
     }
-    Ok(matrices)
+    Ok(filled)
 }

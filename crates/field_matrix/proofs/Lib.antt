@@ -2,6 +2,7 @@ pub mod CallerLemmas
 mod Cut
 mod Splits
 mod Clear
+mod Pivots
 mod BringUp
 mod Reduced
 mod Ranks

@@ -2,7 +2,6 @@ use Rattle.std.proofs.Common.{◌≡◌, ◌≢◌, ℕ, zero, suc, ◌+◌, ◌
 use Rattle.std.specs.List.{AllByRecursion}
 use Rattle.std.proofs.lemmas.List.Sums.{sum_by-cons, sum_by_more}
 use Rattle.std.proofs.lemmas.List.{take_all, length-take-le, get_or-take}
-use Rattle.std.proofs.lemmas.Bool.Decides.{nat_tests}
 use native.Mathlib.Decide.{dec_lt}
 use Prim.{yes, no}
 use Rattle.lane_rows.specs.Lanes.{first_place}
@@ -10,19 +9,7 @@ use Rattle.lane_rows.proofs.CallerLemmas.{place_found, place_missing}
 use Rattle.small_field.specs.Field.{Ops, IsField}
 use Rattle.linear_laws.specs.Vectors.{IsVector, IsMatrix, IsBasis, InSpan, row_at}
 use Rattle.linear_laws.specs.Echelon.{IsReducedBelow, IsReducedTo, IsReduced, is_nonzero, rank_of}
-use Rattle.linear_laws.proofs.CallerLemmas.{all_at, span_rows, one_is_not_zero, rank_of_basis, all_take, all_weaker, in_span_trans, pivots_span, pivots_independent, long_pivots, rank_is_dimension as same_rank}
-
-pub nonzero_at : (row : List ℕ) (j : ℕ) → get_or row j 0 ≢ 0 → is_nonzero row ≡ true
-nonzero_at [] j ne = absurd (ne refl)
-nonzero_at (x ∷ row) zero ne = grind (arith, nat_tests)
-nonzero_at (x ∷ row) (suc j) ne = let r : is_nonzero row ≡ true = nonzero_at row j ne in grind (arith, nat_tests)
-
-pub zero_row : (row : List ℕ) → ((j : ℕ) → j < length row → get_or row j 0 ≡ 0) → is_nonzero row ≡ false
-zero_row [] z = refl
-zero_row (x ∷ row) z =
-    let x0 : x ≡ 0 = z 0 (omega arith) in
-    let r : is_nonzero row ≡ false = zero_row row (λ j lt. z (suc j) (omega arith)) in
-    grind (arith, nat_tests)
+use Rattle.linear_laws.proofs.CallerLemmas.{nonzero_at, zero_row, all_at, span_rows, one_is_not_zero, rank_of_basis, all_take, all_weaker, in_span_trans, pivots_span, pivots_independent, long_pivots, rank_is_dimension as same_rank}
 
 -- the first entry that is not zero
 pub record First (row : List ℕ) (i : ℕ) : Type 0 where

@@ -7,12 +7,12 @@ use Rattle.small_field.specs.Field.{Ops, IsField}
 use Rattle.linear_laws.specs.Vectors.{entry}
 use Rattle.linear_laws.specs.Echelon.{IsReducedTo, IsReducedBelow}
 use Rattle.linear_laws.proofs.CallerLemmas.{same_span_trans}
-use Rattle.field_matrix.specs.Steps.{IsBroughtUp, IsCleared}
+use Rattle.field_matrix.specs.Steps.{IsBroughtUp, IsCleared, ZeroBelow, ZerosBetween}
 
 module _ (k : Ops) (f : IsField k) where
-  -- the rows from the rank on are zero at the column too
-  pub reduced_none : (cols rank col : ℕ) (before after : List (List ℕ)) → ((i : ℕ) → rank ≤ i → i < length after → entry after i col ≡ 0) → IsReducedTo k cols rank col before after → IsReducedTo k cols rank (col + 1) before after
-  reduced_none cols rank col before after none h =
+  -- the rows from the rank on are zero at the columns that follow too
+  pub reduced_none : (cols rank col upto : ℕ) (before after : List (List ℕ)) → col ≤ upto → ZerosBetween after rank col upto → IsReducedTo k cols rank col before after → IsReducedTo k cols rank upto before after
+  reduced_none cols rank col upto before after le none h =
       let r : IsReducedBelow col after h.pivots = h.reduced in
       let is : length h.pivots ≡ rank = h.rank_is in
       record {
@@ -31,7 +31,7 @@ module _ (k : Ops) (f : IsField k) where
           zero = λ i j l li lj.
               elim (dec_lt j col) [
                 | yes b ↦ r.zero i j l li b
-                | no m ↦ let e : col ≡ j = omega arith in subst (λ (z : ℕ). entry after i z ≡ 0) e (none i (omega arith) li)
+                | no m ↦ none i j (omega arith) li (omega arith) lj
               ];
         };
       }
@@ -116,3 +116,12 @@ module _ (k : Ops) (f : IsField k) where
               ];
         };
       }
+
+  -- the rows from the rank on are zero before the next pivot
+  pub zero_before : (cols rank begin col : ℕ) (before after : List (List ℕ)) → ZerosBetween after rank begin col → IsReducedTo k cols rank begin before after → ZeroBelow rank col after
+  zero_before cols rank begin col before after none h i j le lt lj =
+      let is : length h.pivots ≡ rank = h.rank_is in
+      elim (dec_lt j begin) [
+        | yes b ↦ h.reduced.zero i j (omega arith) lt b
+        | no m ↦ none i j le lt (omega arith) lj
+      ]

@@ -1,27 +1,15 @@
 use Rattle.std.proofs.Common.{◌≡◌, ℕ, zero, suc, ◌+◌, ◌<◌, List, [], ◌∷◌, ◌++◌, length, length-append, map, take, drop, replicate, get_or, true, false, refl, ap, sym, ◌∙◌, arith, subst}
 use Rattle.std.proofs.lemmas.Simd.{length-replicate}
 use Rattle.std.proofs.lemmas.List.{length-map, take_at, get_or-take, drop_at}
-use Rattle.std.proofs.lemmas.Bool.Decides.{nat_tests}
 use Rattle.small_field.specs.Field.{Ops, IsField}
 use Rattle.linear_laws.specs.Marks.{identity, beside, lefts}
 use Rattle.linear_laws.specs.Vectors.{IsVector, IsMatrix, InSpan, plus_scaled, combination}
 use Rattle.small_field.specs.Values.{AreElements}
 use Rattle.linear_laws.specs.Echelon.{IsReducedTo, is_nonzero}
 use Rattle.small_field.proofs.CallerLemmas.{neg_mul, neg_unique, neg_neg}
-use Rattle.linear_laws.proofs.CallerLemmas.{combination-vector, one_times, span_plus, zeros-elements, plus_scaled-long, span_scaled, zero_at_pivots, all_append, take-plus_scaled, drop-plus_scaled, left_vector, told_by_right, left_reduced, left_pivots}
+use Rattle.linear_laws.proofs.CallerLemmas.{none_is_zeros, zeros_are_none, combination-vector, one_times, span_plus, zeros-elements, plus_scaled-long, span_scaled, zero_at_pivots, all_append, take-plus_scaled, drop-plus_scaled, left_vector, told_by_right, left_reduced, left_pivots}
 use Rattle.field_matrix.specs.Steps.{IsReducedBy, IsSwept, IsClearAt}
 use Rattle.field_matrix.proofs.Sweep.{place_is}
-
--- a row with no entry but 0
-pub none_is_zeros : (row : List ℕ) → is_nonzero row ≡ false → row ≡ replicate (length row) 0
-none_is_zeros [] h = refl
-none_is_zeros (x ∷ row) h =
-    let parts : (x ≡ 0) × (is_nonzero row ≡ false) = grind (arith, nat_tests) in
-    ap (λ (y : ℕ). y ∷ row) parts.0 ∙ ap (λ (r : List ℕ). 0 ∷ r) (none_is_zeros row parts.1)
-
-pub zeros_are_none : (n : ℕ) → is_nonzero (replicate n 0) ≡ false
-zeros_are_none zero = refl
-zeros_are_none (suc n) = let r : is_nonzero (replicate n 0) ≡ false = zeros_are_none n in grind (arith, nat_tests)
 
 module _ (k : Ops) (f : IsField k) where
   pub negated-elements : (xs : List ℕ) → AreElements k (map k.neg xs)

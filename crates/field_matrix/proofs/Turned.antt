@@ -7,14 +7,14 @@ use Rattle.lane_rows.specs.Lanes.{first_place}
 use Rattle.small_field.specs.Field.{Ops, IsField}
 use Rattle.std.proofs.lemmas.List.Elements.{recursion_from_All}
 use Rattle.linear_laws.specs.Vectors.{IsVector, IsMatrix, column, row_at}
-use Rattle.linear_laws.proofs.CallerLemmas.{all_append, length-column, column_below, one_is_not_zero}
+use Rattle.linear_laws.proofs.CallerLemmas.{nonzero_at, zero_row, all_append, length-column, column_below, one_is_not_zero}
 use Rattle.linear_laws.specs.Echelon.{IsReducedBelow, is_nonzero}
 use Rattle.field_matrix.specs.Rows.{cut}
 use Rattle.field_matrix.specs.Solutions.{above}
 use Rattle.field_matrix.proofs.Cut.{length-cut}
 use Rattle.field_matrix.proofs.Built.{cut-pushed}
 use Rattle.field_matrix.proofs.Chosen.{above_low, above_high, above-more}
-use Rattle.field_matrix.proofs.Ranks.{First, first_is, nonzero_at, zero_row}
+use Rattle.field_matrix.proofs.Ranks.{First, first_is}
 
 pub column-append : (j : ℕ) (xs ys : List (List ℕ)) → column j (xs ++ ys) ≡ column j xs ++ column j ys
 column-append j [] ys = refl

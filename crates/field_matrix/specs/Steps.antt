@@ -3,6 +3,9 @@
 --   IsBroughtUp k cols rank col before after      the rows before `rank` stay, the others are zero before the column, row `rank` has a 1 there
 --   IsCleared k cols rank col upto before after   what clearing a column leaves in the rows before `upto`, where row `rank` is the pivot row
 --   ZeroBelow rank col rows                       the rows from `rank` on are zero before the column
+--   ZerosBetween rows rank begin col              they are zero from the column `begin` on before the column
+--   IsNextPivot rows rank begin upto row col      the column is the first from `begin` on, before `upto`, at which one of them is not zero,
+--                                                 and the row the first such row
 --   IsReducedBy width rank rows                   the first `rank` rows have pivots in the first `width` columns, in reduced row echelon form
 --   IsSwept k cols rows before after              a row to which a combination of the rows was added
 --   IsClearAt width upto rows row                 zero in the first column that is not zero, among the first `width`, of each of the first `upto` rows
@@ -34,6 +37,18 @@ pub record IsBroughtUp (k : Ops) (cols rank col : ℕ) (before after : List (Lis
 
 abbrev pub ZeroBelow : ℕ → ℕ → List (List ℕ) → Type 0
 ZeroBelow rank col rows = (i j : ℕ) → rank ≤ i → i < length rows → j < col → entry rows i j ≡ 0
+
+abbrev pub ZerosBetween : List (List ℕ) → (rank begin col : ℕ) → Type 0
+ZerosBetween rows rank begin col = (i j : ℕ) → rank ≤ i → i < length rows → begin ≤ j → j < col → entry rows i j ≡ 0
+
+pub record IsNextPivot (rows : List (List ℕ)) (rank begin upto row col : ℕ) : Type 0 where
+  pub low : rank ≤ row
+  pub within : row < length rows
+  pub after : begin ≤ col
+  pub before : col < upto
+  pub nonzero : entry rows row col ≢ 0
+  pub first : (i : ℕ) → rank ≤ i → i < row → entry rows i col ≡ 0
+  pub zeros : ZerosBetween rows rank begin col
 
 pub record IsReducedBy (width rank : ℕ) (rows : List (List ℕ)) : Type 0 where
   pub pivots : List ℕ

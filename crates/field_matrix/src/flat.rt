@@ -66,6 +66,19 @@ pub fn set_entry(entries: &mut [u8], shape: Shape, row: usize, col: usize, value
     entries[begin + col] = value;
 }
 
+/// Writes a row.
+pub fn set_row(entries: &mut [u8], shape: Shape, row: usize, source: &[u8])
+    requires shape { length entries.old ≡ shape.rows * shape.cols }
+    requires row { row < shape.rows }
+    requires source { length source.now ≡ shape.cols }
+    ensures { cut shape.rows shape.cols entries.new ≡ slice_set (cut shape.rows shape.cols entries.old) row source.now }
+{
+    let begin = begin_of(entries, shape, row);
+    let (_, rest) = entries.split_at_mut(begin);
+    let (target, _) = rest.split_at_mut(shape.cols);
+    target.copy_from_slice(source);
+}
+
 /// Multiplies each number by a factor.
 pub fn scale<F: Field>(numbers: &mut [u8], factor: F)
     requires { AreElements F.ops numbers.old }

@@ -14,6 +14,7 @@ mod places;
 mod reduce;
 mod row;
 mod solve;
+mod zero_rows;
 
 pub use history::Elimination;
 pub use matrix::Matrix;

@@ -1,14 +1,15 @@
 //! Matrices, and their reduced row echelon form.
 
-ghost use Rattle.std.specs.Prelude.{◌≡◌, ℕ, ◌+◌, ◌*◌, ◌<◌, ◌≤◌, ◌^◌, List, length, replicate, slice_index, slice_set, Some, IfOk};
+ghost use Rattle.std.specs.Prelude.{◌≡◌, ℕ, ◌+◌, ◌*◌, ◌<◌, ◌≤◌, ◌^◌, ◌++◌, ◌∷◌, [], List, length, replicate, slice_index, slice_set, Some, IfOk, OnOk, OnErr};
 ghost use Rattle.lane_rows.specs.Lanes.{first_place};
 ghost use Rattle.linear_laws.specs.Vectors.{IsMatrix, IsBasis, row_at, entry};
 ghost use Rattle.small_field.specs.Values.{AreElements};
 ghost use Rattle.linear_laws.specs.Echelon.{IsReducedBelow, IsReducedTo, IsReduced, rank_of};
 ghost use Rattle.field_matrix.specs.Rows.{cut, IsFilled};
 
-use crate::flat::{Shape, entry_of, row_of, set_entry};
+use crate::flat::{Shape, entry_of, row_of, set_entry, set_row};
 use crate::reduce::reduce_rows;
+use crate::row::Row;
 use small_field::Field;
 use std::alloc::{AllocError, Global};
 use std::marker::{Model, PhantomData};
@@ -94,6 +95,19 @@ impl<F: Field> Matrix<F> {
         set_entry(&mut self.entries, shape, row as usize, col as usize, number);
     }
 
+    /// Puts a row last. Where memory is wanting, the matrix is as before.
+    pub fn push_row(&mut self, row: &Row<F>) -> Result<(), AllocError>
+        requires cols { length row.now ≡ self.old.cols }
+        requires few { length self.old.rows < 4294967295 }
+        ensures cols { self.new.cols ≡ self.old.cols }
+        ensures rows { OnOk result (self.new.rows ≡ self.old.rows ++ row.now ∷ []) }
+        ensures err { OnErr result (self.new.rows ≡ self.old.rows) }
+    {
+        self.entries.extend_from_slice(row.numbers())?;
+        self.rows += 1;
+        Ok(())
+    }
+
     /// The same matrix once more.
     pub fn copy(&self, alloc: Global) -> Result<Matrix<F>, AllocError>
         ensures { IfOk result (λ m. m ≡ self.now) }
@@ -153,6 +167,22 @@ impl<F: Field> Matrix<F> {
             cols: self.cols as usize,
         };
         lane_rows::first_nonzero(row_of(&self.entries, shape, row as usize)).unwrap()
+    }
+
+    /// Puts a row of another matrix in place of a row.
+    pub(crate) fn put_row(&mut self, place: u32, from: &Matrix<F>, row: u32)
+        requires cols { from.now.cols ≡ self.old.cols }
+        requires place { place < length self.old.rows }
+        requires row { row < length from.now.rows }
+        ensures cols { self.new.cols ≡ self.old.cols }
+        ensures rows { self.new.rows ≡ slice_set self.old.rows place (row_at from.now.rows row) }
+    {
+        let shape = Shape {
+            rows: self.rows as usize,
+            cols: self.cols as usize,
+        };
+        let source = row_of(from.entries(), from.shape(), row as usize);
+        set_row(&mut self.entries, shape, place as usize, source);
     }
 
     /// A matrix with these entries, row after row.

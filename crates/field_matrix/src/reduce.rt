@@ -1,12 +1,12 @@
 //! Elimination on the rows of a slice.
 
-ghost use Rattle.std.specs.Prelude.{◌≡◌, ◌≢◌, ℕ, ◌+◌, ◌*◌, ◌<◌, ◌≤◌, length, slice_set, IfSome, IfNone};
+ghost use Rattle.std.specs.Prelude.{◌≡◌, ◌≢◌, ℕ, ◌+◌, ◌*◌, ◌<◌, ◌≤◌, length, slice_index, slice_set, IfSome, IfNone};
 ghost use Rattle.linear_laws.specs.Vectors.{IsMatrix, SameSpan, plus_scaled, row_at, entry};
 ghost use Rattle.linear_laws.specs.Echelon.{IsReducedTo};
 ghost use Rattle.field_matrix.specs.Rows.{cut};
-ghost use Rattle.field_matrix.specs.Steps.{IsCleared, IsPivotRow, IsBroughtUp, ZeroBelow};
+ghost use Rattle.field_matrix.specs.Steps.{IsCleared, IsPivotRow, IsBroughtUp, IsNextPivot, ZeroBelow, ZerosBetween};
 
-use crate::flat::{Shape, combine_rows, entry_of, scale_row};
+use crate::flat::{Shape, combine_rows, entry_of, row_of, scale_row};
 use small_field::Field;
 use std::sync::ledger::Ledger;
 use step_count::Steps;
@@ -25,30 +25,65 @@ pub fn reduce_rows<F: Field, L: Ledger>(
     ensures steps { steps.new ≤ steps.old + shape.rows * result }
 {
     let mut rank = 0;
-    for col in 0..upto {
-        if let Some(here) = find_row(entries, shape, rank, col) {
-            bring_up::<F, L>(entries, shape, rank, here, col, steps);
-            clear_column::<F, L>(entries, shape, rank, col, steps);
-            rank += 1;
+    let mut begin = 0;
+    for turn in 0..upto {
+        match find_pivot(entries, shape, rank, begin, upto) {
+            None => return rank,
+            Some(at) => {
+                bring_up::<F, L>(entries, shape, rank, at.row, at.col, steps);
+                clear_column::<F, L>(entries, shape, rank, at.col, steps);
+                rank += 1;
+                begin = at.col + 1;
+            }
         }
     }
     rank
 }
 
-/// The first row from `rank` on that is not zero at the column.
-fn find_row(entries: &[u8], shape: Shape, rank: usize, col: usize) -> Option<usize>
+/// Where the next pivot is.
+#[derive(Clone, Copy)]
+struct Pivot {
+    row: usize,
+    col: usize,
+}
+
+/// The first column from `begin` on, before `upto`, at which a row from `rank` on is not zero, and the first such
+/// row. Each row is read along, and no further than to the best column so far.
+fn find_pivot(entries: &[u8], shape: Shape, rank: usize, begin: usize, upto: usize) -> Option<Pivot>
     requires shape { length entries.now ≡ shape.rows * shape.cols }
-    requires col { col < shape.cols }
-    ensures found { IfSome result (λ i. (rank ≤ i) × (i < shape.rows) × (entry (cut shape.rows shape.cols entries.now) i col ≢ 0)) }
-    ensures first { IfSome result (λ i. (a : ℕ) → rank ≤ a → a < i → entry (cut shape.rows shape.cols entries.now) a col ≡ 0) }
-    ensures none { IfNone result ((a : ℕ) → rank ≤ a → a < shape.rows → entry (cut shape.rows shape.cols entries.now) a col ≡ 0) }
+    requires begin { begin ≤ upto }
+    requires upto { upto ≤ shape.cols }
+    ensures found { IfSome result (λ at. IsNextPivot (cut shape.rows shape.cols entries.now) rank begin upto at.row at.col) }
+    ensures none { IfNone result (ZerosBetween (cut shape.rows shape.cols entries.now) rank begin upto) }
 {
-    for i in rank..shape.rows {
-        if entry_of(entries, shape, i, col) != 0 {
-            return Some(i);
+    let mut best = Pivot {
+        row: rank,
+        col: upto,
+    };
+    for row in rank..shape.rows {
+        let col = first_from(row_of(entries, shape, row), begin, best.col);
+        if col < best.col {
+            best = Pivot { row, col };
         }
     }
-    None
+    if best.col < upto { Some(best) } else { None }
+}
+
+/// The first place from `begin` on, before `end`, at which a row is not zero, or the end.
+fn first_from(row: &[u8], begin: usize, end: usize) -> usize
+    requires begin { begin ≤ end }
+    requires end { end ≤ length row.now }
+    ensures low { begin ≤ result }
+    ensures high { result ≤ end }
+    ensures zeros { (j : ℕ) → begin ≤ j → j < result → slice_index row.now j ≡ 0 }
+    ensures found { result < end → slice_index row.now result ≢ 0 }
+{
+    for place in begin..end {
+        if row[place] != 0 {
+            return place;
+        }
+    }
+    end
 }
 
 /// Makes row `rank` begin with a 1 at the column, by the row `here`: the first from `rank` on that

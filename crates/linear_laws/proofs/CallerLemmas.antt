@@ -94,3 +94,13 @@ pub use Rattle.linear_laws.proofs.Halves.{left_vector, right_matrix}
 pub use Rattle.linear_laws.proofs.History.{left_reduced, left_pivots, few_rows}
 -- the right halves say how the left ones are made of the rows, and those from the rank on are a basis of the kernel
 pub use Rattle.linear_laws.proofs.History.{history_of, told_by_right, kernel_matrix, kernel_basis}
+-- ---- rows of zeros
+
+-- a row with an entry that is not zero, a row without, and zeros
+pub use Rattle.linear_laws.proofs.ZeroRows.{nonzero_at, zero_row, none_is_zeros, zeros_are_none}
+-- one row more at the end, which is not zero, or is zero
+pub use Rattle.linear_laws.proofs.ZeroRows.{nonzero_last, zeros_last}
+-- how many rows are not zero, and where
+pub use Rattle.linear_laws.proofs.ZeroRows.{nonzero_few, nonzero_many, nonzero_within, all_nonzero}
+-- one row more that is put; the rows that are not zero among zeros are all; rows of zeros change no rank
+pub use Rattle.linear_laws.proofs.ZeroRows.{put_more, again, same_rank}

@@ -16,3 +16,5 @@ mod Laws
 mod Marks
 mod Halves
 mod History
+mod ZeroRows
+mod Kernels

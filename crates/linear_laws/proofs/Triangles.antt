@@ -1,22 +1,14 @@
-use Rattle.std.proofs.Common.{◌≡◌, ◌≢◌, ℕ, suc, ◌<◌, inl, inr, List, [], ◌∷◌, ◌++◌, length, drop, replicate, refl, ap, sym, ◌∙◌, arith, subst}
-use Rattle.std.specs.Prelude.{⊤}
+use Rattle.std.proofs.Common.{◌≡◌, ℕ, suc, ◌<◌, inl, inr, List, [], ◌∷◌, ◌++◌, length, drop, replicate, refl, ap, sym, ◌∙◌, arith, subst}
 use Rattle.std.specs.List.{AllByRecursion}
 use Rattle.small_field.specs.Field.{Ops, IsField}
 use Rattle.linear_laws.specs.Vectors.{dot, IsVector, IsMatrix, plus_scaled, combination, InSpan, IsIndependent, IsDependent}
-use Rattle.linear_laws.specs.Triangle.{Triangle}
+use Rattle.linear_laws.specs.Triangle.{Triangle, TriangleOver}
 use Rattle.linear_laws.proofs.Dot.{dot_below, dot_added, dot_zeros, dot_comm}
 use Rattle.small_field.proofs.CallerLemmas.{zero_below, mul_zero, factor_zero}
 use Rattle.linear_laws.proofs.Solve.{more_are_dependent}
 use Rattle.linear_laws.proofs.Span.{combination-vector, zero_times}
 use Rattle.linear_laws.proofs.Decide.{zeros_of_dots}
 use Rattle.linear_laws.proofs.Dimension.{in_span_or_not, no_nonzero}
-
--- a triangle whose tests are zero on the vectors es too
-abbrev pub TriangleOver : Ops → List (List ℕ) → List (List ℕ) → List (List ℕ) → Type 0
-TriangleOver k es [] [] = ⊤
-TriangleOver k es [] (t ∷ ts) = ⊥
-TriangleOver k es (d ∷ ds) [] = ⊥
-TriangleOver k es (d ∷ ds) (t ∷ ts) = (dot k d t ≢ 0) × AllByRecursion (λ e. dot k e t ≡ 0) (ds ++ es) × TriangleOver k es ds ts
 
 module _ (k : Ops) (f : IsField k) where
   -- a combination of vectors that are zero on a test

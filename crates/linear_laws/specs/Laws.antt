@@ -6,15 +6,21 @@
 --   BasisByRanks k              the ranks of two maps that follow one another, whose composition is zero, give the length of a
 --                               basis modulo coboundaries
 --   TrianglesAreIndependent k   vectors with a triangle of tests are independent
+--   HistoryGivesKernel k        the history of a reduced form gives a basis of the kernel: its rows from the rank on
+--   KernelsComplete k           where a basis of the coboundaries is completed by more vectors to one of coboundaries and kernel, those are
+--                               a basis of the kernel modulo coboundaries
+--   IndependentSpan k           n independent vectors of n coordinates span
+--   TrianglesCertify k          where n vectors have a triangle of tests and the tests of the first of them are zero on a vector, this is a
+--                               combination of the others
 --   CombinationLaws k           how combinations compute: their coordinates, sums, and combinations of combinations
-use Rattle.std.specs.Prelude.{◌≡◌, ℕ, ◌<◌, List, ◌++◌, length, map, replicate, slice_index}
+use Rattle.std.specs.Prelude.{◌≡◌, ℕ, ◌<◌, List, ◌++◌, length, map, drop, replicate, slice_index}
 use Rattle.std.specs.List.{AllByRecursion}
 use Rattle.small_field.specs.Field.{Ops}
-use Rattle.linear_laws.specs.Vectors.{dot, column, boundary, bump, IsVector, IsMatrix, IsDependent, IsIndependent, IsBasis, InSpan, plus_scaled, combination}
+use Rattle.linear_laws.specs.Vectors.{dot, column, boundary, bump, IsVector, IsMatrix, IsDependent, IsIndependent, IsBasis, IsHistory, IsKernelBasis, InSpan, plus_scaled, combination}
 use Rattle.linear_laws.specs.Echelon.{IsReducedTo}
-use Rattle.linear_laws.specs.Triangle.{Triangle}
+use Rattle.linear_laws.specs.Triangle.{Triangle, TriangleOver}
 use Rattle.linear_laws.specs.Linear.{IsLinear}
-use Rattle.linear_laws.specs.Betti.{HasBasis}
+use Rattle.linear_laws.specs.Betti.{HasBasis, IsCohomologyBasis}
 
 abbrev pub MoreAreDependent : Ops → Type 0
 MoreAreDependent k = (n : ℕ) (rows : List (List ℕ)) → IsMatrix k n rows → n < length rows → IsDependent k n rows
@@ -33,6 +39,22 @@ BasisByRanks k = (n m rank_last rank_next : ℕ) (last next last_reduced next_re
 
 abbrev pub TrianglesAreIndependent : Ops → Type 0
 TrianglesAreIndependent k = (n : ℕ) (ds ts : List (List ℕ)) → IsMatrix k n ds → IsMatrix k n ts → Triangle k ds ts → IsIndependent k n ds
+
+abbrev pub HistoryGivesKernel : Ops → Type 0
+HistoryGivesKernel k = (n rank : ℕ) (rows after history : List (List ℕ)) → IsMatrix k n rows → IsReducedTo k n rank n rows after → IsHistory k n rows after history → IsKernelBasis k n rows (drop rank history)
+
+abbrev pub KernelsComplete : Ops → Type 0
+KernelsComplete k =
+    (m : ℕ) (last next zs bs ws : List (List ℕ)) → IsMatrix k (length next) last → IsMatrix k m next → AllByRecursion (λ b. combination k m b next ≡ replicate m 0) last
+    → IsKernelBasis k m next zs → IsBasis k (length next) last bs → IsBasis k (length next) (last ++ zs) (bs ++ ws) → IsCohomologyBasis k m last next ws
+
+abbrev pub IndependentSpan : Ops → Type 0
+IndependentSpan k = (n : ℕ) (ds : List (List ℕ)) (z : List ℕ) → IsMatrix k n ds → IsVector k n z → IsIndependent k n ds → length ds ≡ n → InSpan k n ds z
+
+abbrev pub TrianglesCertify : Ops → Type 0
+TrianglesCertify k =
+    (n : ℕ) (xs ws es us : List (List ℕ)) (z : List ℕ) → IsMatrix k n (xs ++ es) → IsMatrix k n (ws ++ us) → TriangleOver k es xs ws → Triangle k es us → length (xs ++ es) ≡ n
+    → IsVector k n z → AllByRecursion (λ w. dot k z w ≡ 0) ws → (cs : List ℕ) × IsVector k (length es) cs × (z ≡ combination k n cs es)
 
 pub record CombinationLaws (k : Ops) : Type 0 where
   pub vector : (n : ℕ) (cs : List ℕ) (rows : List (List ℕ)) → IsMatrix k n rows → IsVector k n (combination k n cs rows)

@@ -1,7 +1,8 @@
--- Meaning for contracts: Vectors, Echelon, Betti, Linear, Triangle, Laws, and `mark` of Marks. What the code of matrices keeps
+-- Meaning for contracts: Vectors, Echelon, ZeroRows, Betti, Linear, Triangle, Laws, and `mark` of Marks. What the code of matrices keeps
 -- for itself: the rest of Marks, unit vectors and rows side by side.
 pub mod Vectors
 pub mod Echelon
+pub mod ZeroRows
 pub mod Triangle
 pub mod Linear
 pub mod Betti

@@ -5,7 +5,8 @@
 //! of such rows. Each law is the contract of a function with an empty body.
 #![tactic(auto)]
 
-ghost use Rattle.linear_laws.specs.Laws.{MoreAreDependent, BasesAreAsLong, RowsHaveABasis, RankIsDimension, BasisByRanks, TrianglesAreIndependent, CombinationLaws};
+ghost use Rattle.linear_laws.specs.ZeroRows.{ZeroRowsLaws};
+ghost use Rattle.linear_laws.specs.Laws.{MoreAreDependent, BasesAreAsLong, RowsHaveABasis, RankIsDimension, BasisByRanks, TrianglesAreIndependent, HistoryGivesKernel, KernelsComplete, IndependentSpan, TrianglesCertify, CombinationLaws};
 
 use small_field::Field;
 
@@ -44,4 +45,32 @@ pub fn basis_by_ranks<F: Field>()
 /// Vectors are independent where each has a test that is not zero on it and zero on all later ones.
 pub fn triangles_are_independent<F: Field>()
     ensures { TrianglesAreIndependent F.ops }
+{}
+
+/// Rows of zeros change no rank: a reduced form of the rows that are not zero gives one of all rows, which stand
+/// among zeros at their places.
+pub fn zero_rows_change_no_rank<F: Field>()
+    ensures { ZeroRowsLaws F.ops }
+{}
+
+/// The rows of the history of a reduced form, from the rank on, are a basis of the kernel.
+pub fn history_gives_kernel<F: Field>()
+    ensures { HistoryGivesKernel F.ops }
+{}
+
+/// What completes a basis of the coboundaries to one of coboundaries and kernel is a basis of the kernel modulo
+/// coboundaries.
+pub fn kernels_complete<F: Field>()
+    ensures { KernelsComplete F.ops }
+{}
+
+/// As many independent vectors as coordinates span.
+pub fn independent_vectors_span<F: Field>()
+    ensures { IndependentSpan F.ops }
+{}
+
+/// A full triangle certifies: a vector on which the tests of its first vectors are zero is a combination of the
+/// others.
+pub fn triangles_certify<F: Field>()
+    ensures { TrianglesCertify F.ops }
 {}

@@ -1,13 +1,15 @@
 -- Bounds on row additions.
-use Rattle.std.proofs.Common.{◌≡◌, ℕ, ◌+◌, ◌*◌, ◌≤◌, List, length, ap, subst, sym, arith}
-use Rattle.std.proofs.Math.Nat.{mul-le-mul_left, mul-le-mul}
-use Rattle.small_field.specs.Field.{Ops}
+use Rattle.std.proofs.Common.{◌≡◌, ℕ, ◌+◌, ◌*◌, ◌≤◌, List, length, ap, subst, sym, ◌∙◌, arith}
+use Rattle.std.proofs.Math.Nat.{mul-le-mul}
+use Rattle.small_field.specs.Field.{Ops, IsField}
 use Rattle.linear_laws.specs.Echelon.{IsReduced, IsReducedTo}
+use Rattle.linear_laws.specs.ZeroRows.{nonzero_rows}
+use Rattle.linear_laws.proofs.CallerLemmas.{nonzero_few, same_rank}
 use Rattle.field_matrix.proofs.CallerLemmas.{few_pivots}
 use Rattle.split_laws.specs.declared.kind.Kind.{Kind}
 use Rattle.split_laws.specs.Kinds.{criticals}
 use Rattle.critical_complex.specs.Stages.{Stage}
-use Rattle.critical_complex.specs.Splits.{kinds_at, IsReducedAt}
+use Rattle.critical_complex.specs.Splits.{kinds_at, AreFilledAt}
 use Rattle.critical_complex.proofs.CallerLemmas.{criticals_few}
 use Rattle.reduced_betti.specs.Ranks.{HasRank}
 
@@ -16,27 +18,34 @@ module _ (F : Ops) (cols rank : ℕ) (rows after : List (List ℕ)) (h : IsReduc
   is_reduced n e = subst (λ k. IsReduced k after) (sym e) (record { pivots = h.pivots; reduced = h.reduced })
 
   -- rows times rank is at most rows times columns
-  pub few_additions : (m n old now : ℕ) → length rows ≡ m → cols ≡ n → now ≤ old + length rows * rank → now ≤ old + m * n
+  pub few_additions : (m n old now : ℕ) → length rows ≤ m → cols ≡ n → now ≤ old + length rows * rank → now ≤ old + m * n
   few_additions m n old now e f cost =
       let few : length h.pivots ≤ cols = few_pivots cols after h.pivots h.reduced in
       let is : length h.pivots ≡ rank = h.rank_is in
       let low : rank ≤ n = omega arith in
-      let product : m * rank ≤ m * n = mul-le-mul_left m low in
-      let same : length rows * rank ≡ m * rank = ap (λ k. k * rank) e in
+      let product : length rows * rank ≤ m * n = mul-le-mul e low in
       omega arith
 
-  -- the rank of a copy of the reduced rows
-  pub has_rank : (stages : List Stage) (degree r : ℕ) (source : List (List ℕ)) → cols ≡ criticals (kinds_at stages (degree + 1)) → rows ≡ source → r ≡ rank
-      → IsReducedAt F stages degree source → HasRank F stages degree r
-  has_rank stages degree r source e f k by = record {
-    rows = source;
-    reduced = by;
-    echelon = after;
-    is =
-        subst (λ (s : ℕ). IsReducedTo F (criticals (kinds_at stages (degree + 1))) s (criticals (kinds_at stages (degree + 1))) source after) (sym k)
-        (subst (λ (ws : List (List ℕ)). IsReducedTo F (criticals (kinds_at stages (degree + 1))) rank (criticals (kinds_at stages (degree + 1))) ws after) f
-        (subst (λ (n : ℕ). IsReducedTo F n rank n rows after) e h));
-  }
+  -- the rank of a copy of the reduced rows that are not zero
+  pub has_rank : IsField F → (stages : List Stage) (degree r : ℕ) (source : List (List ℕ)) → cols ≡ criticals (kinds_at stages (degree + 1)) → rows ≡ source → r ≡ rank
+      → AreFilledAt F stages degree source → HasRank F stages degree r
+  has_rank L stages degree r source e f k by =
+      let n : ℕ = criticals (kinds_at stages (degree + 1)) in
+      let nonzero : IsReducedTo F n rank n (nonzero_rows by.all) after =
+      subst (λ (ws : List (List ℕ)). IsReducedTo F n rank n ws after) (f ∙ by.are) (subst (λ (m : ℕ). IsReducedTo F m rank m rows after) e h) in
+      let all = same_rank F L n rank by.all after by.reduced.matrix nonzero in
+      record {
+        rows = by.all;
+        reduced = by.reduced;
+        echelon = all.0;
+        is = subst (λ (s : ℕ). IsReducedTo F n s n by.all all.0) (sym k) all.1;
+      }
+
+-- the rows that are not zero are at most all rows
+pub few_filled : (F : Ops) (stages : List Stage) (degree : ℕ) (source : List (List ℕ)) → AreFilledAt F stages degree source → length source ≤ criticals (kinds_at stages degree)
+few_filled F stages degree source by =
+    let few : length (nonzero_rows by.all) ≤ length by.all = nonzero_few by.all in
+    omega (arith, few, by.reduced.long, ap (λ (rows : List (List ℕ)). length rows) by.are)
 
 -- the critical cells are at most the cells
 pub few_entries : (ts us vs ws : List Kind) → criticals ts * criticals us + criticals us * criticals vs + criticals vs * criticals ws ≤ length ts * length us + length us * length vs + length vs * length ws

@@ -39,10 +39,11 @@ pub fn critical_count<F: Field>(reduced: &Reduced<F>, dim: u8) -> u32
     requires { dim ≤ 3 }
     ensures { result ≡ criticals (kinds_at reduced.now dim) }
 {
-    reduced.coboundary_rows(dim).rows()
+    reduced.criticals(dim)
 }
 
-/// The rank of the reduced coboundary of a degree. Each row addition of the reduction is one step.
+/// The rank of the reduced coboundary of a degree, by its rows that are not zero. Each row addition of the
+/// reduction is one step.
 fn reduced_rank<F: Field, L: Ledger>(
     alloc: Global,
     reduced: &Reduced<F>,
@@ -53,7 +54,7 @@ fn reduced_rank<F: Field, L: Ledger>(
     ensures rank { IfOk result (HasRank F.ops reduced.now dim) }
     ensures steps { steps.new ≤ steps.old + criticals (kinds_at reduced.now dim) * criticals (kinds_at reduced.now (dim + 1)) }
 {
-    let mut matrix = reduced.coboundary_rows(dim).copy(alloc)?;
+    let mut matrix = reduced.filled_rows(dim).copy(alloc)?;
     matrix.reduce(steps);
     Ok(matrix.rank())
 }

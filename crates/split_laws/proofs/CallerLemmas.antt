@@ -3,8 +3,8 @@
 
 -- ---- values by kinds
 
--- the values on critical cells: how many, and those of zeros
-pub use Rattle.split_laws.proofs.Parts.{part-long, part-zeros}
+-- the values on critical cells: how many, that they are a vector, and those of zeros
+pub use Rattle.split_laws.proofs.Parts.{part-long, part-vector, part-zeros}
 -- zeros are zero on uppers
 pub use Rattle.split_laws.proofs.Parts.{none-zeros}
 -- values spread over the critical cells: their number, elements, zero on uppers and on lowers, and the values themselves

@@ -67,23 +67,27 @@ fn numbers<F: Field>(rt: &impl Abort, values: &Cochain<F>) -> [u32; 4] {
 }
 
 /// The four numbers of the coboundaries of two extensions at two critical cells.
-fn coboundaries<F: Field>(rt: &impl Abort, reduced: &Reduced<F>) -> [u32; 4] {
-    let matrix = reduced.coboundary_rows(0);
+fn coboundaries<F: Field>(
+    rt: &impl Abort,
+    alloc: Global,
+    reduced: &Reduced<F>,
+) -> Result<[u32; 4], AllocError> {
+    let matrix = reduced.coboundary_rows(alloc, 0)?;
     assert!(rt; matrix.rows() == 2);
     assert!(rt; matrix.cols() == 2);
-    [
+    Ok([
         matrix.get(0, 0).to_number(),
         matrix.get(0, 1).to_number(),
         matrix.get(1, 0).to_number(),
         matrix.get(1, 1).to_number(),
-    ]
+    ])
 }
 
 // The extension from 1 is 1 at 1 and 3, so that it goes down from 1 to 4 and up from 2 to 3.
 #[test]
 fn reads_the_coboundaries_of_extensions(rt: HostRuntime) -> Result<(), Fail> {
     let reduced = circle::<Gfp<3>>(rt.alloc(), &steps())?;
-    assert_eq!(rt; coboundaries(&rt, &reduced), [2, 1, 1, 2]);
+    assert_eq!(rt; coboundaries(&rt, rt.alloc(), &reduced)?, [2, 1, 1, 2]);
     Ok(())
 }
 
@@ -97,7 +101,7 @@ fn one_and_two<F: Field>(
     requires { dim ≤ 3 }
     ensures { IfOk result (λ row. length row ≡ criticals (kinds_at reduced.now dim)) }
 {
-    let mut row = Row::zero(alloc, reduced.coboundary_rows(dim).rows())?;
+    let mut row = Row::zero(alloc, reduced.criticals(dim))?;
     assert!(rt; row.len() == 2);
     row.set(0, F::one());
     row.set(1, F::one().add(F::one()));
@@ -158,7 +162,7 @@ fn cycle_of<F: Field>(
     alloc: Global,
     reduced: &Reduced<F>,
 ) -> Result<[u32; 4], AllocError> {
-    let mut row = Row::zero(alloc, reduced.coboundary_rows(1).rows())?;
+    let mut row = Row::zero(alloc, reduced.criticals(1))?;
     assert!(rt; row.len() == 1);
     row.set(0, F::one());
     let values = reduced.flow(alloc, 1, &row)?;
@@ -189,7 +193,7 @@ fn cleared<F: Field>(
     alloc: Global,
     reduced: &Reduced<F>,
 ) -> Result<([u32; 4], u32), AllocError> {
-    let none = Row::zero(alloc, reduced.coboundary_rows(1).rows())?;
+    let none = Row::zero(alloc, reduced.criticals(1))?;
     let mut x = reduced.extend(alloc, 1, &none)?;
     assert!(rt; x.len() == 4);
     x.set(1, F::one());

@@ -1,4 +1,4 @@
-use Rattle.std.proofs.Common.{◌≤◌, ◌+◌, ℕ, List, subst}
+use Rattle.std.proofs.Common.{◌≤◌, ◌+◌, subst}
 use Rattle.face_poset.specs.Poset.{Layers}
 use Rattle.order_complex.specs.Numbers.{coboundary_entries}
 use Rattle.reduced_betti.proofs.numbers.betti_of.Goals as goal

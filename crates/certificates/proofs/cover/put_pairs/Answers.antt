@@ -1,0 +1,14 @@
+use Rattle.std.proofs.Common.{◌∷◌, [], refl, length}
+use Rattle.hap_outside.proofs.CallerLemmas.{gathers_next, gathers_fail}
+use Rattle.std.specs.List.{flat_map}
+use Rattle.certificates.specs.declared.kind.Kind.TheVariants as kind
+use Rattle.certificates.specs.Written.{numbered_line, pair_text, pairs_text}
+use Rattle.certificates.proofs.cover.put_pairs.Goals as goal
+
+pub returns-in_err-put_pairs_head-clause-bytes : goal.returns-in_err-put_pairs_head-clause-bytes
+returns-in_err-put_pairs_head-clause-bytes g c =
+    gathers_fail _ _ _ _ (numbered_line kind.Pairs (length c.args.pairs.now ∷ [])) (flat_map pair_text c.args.pairs.now) (pairs_text c.args.pairs.now) _ c.from_residual.result c.from_residual.ensures.0 c.in_err-put_pairs_head.ensures.bytes (refl)
+
+pub returns-clause-bytes : goal.returns-clause-bytes
+returns-clause-bytes g c =
+    gathers_next _ _ _ _ _ _ (numbered_line kind.Pairs (length c.args.pairs.now ∷ [])) (flat_map pair_text c.args.pairs.now) (pairs_text c.args.pairs.now) _ c.put_each_pair.result (refl) c.in_ok-put_pairs_head.ensures.bytes c.put_each_pair.ensures.bytes

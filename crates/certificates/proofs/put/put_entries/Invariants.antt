@@ -1,0 +1,12 @@
+use Rattle.std.proofs.Common.{◌≡◌, Ok, take, map}
+use Rattle.hap_outside.specs.declared.source.Failed.{Failed}
+use Rattle.hap_outside.specs.Gathers.{Gathers}
+use Rattle.certificates.specs.Parts.{entry}
+use Rattle.certificates.specs.Written.{words_text}
+use Rattle.certificates.proofs.put.put_entries.Given as goal
+
+abbrev pub invariant-loop-index : goal.invariant-loop-index
+invariant-loop-index g l = record {
+  bytes : Gathers {T = Unit {0}} {E = Failed} (g.K.Sink.written l.initial.sink) (g.K.Sink.written l.sink) l.initial.held l.held (words_text (map entry (take l.index l.entries))) (Ok tt);
+  still : g.K.Sink.faults l.sink ≡ g.K.Sink.faults l.initial.sink;
+}

@@ -1,0 +1,11 @@
+//! Tests of fields of pairs with more pairs, and of the parts of a space.
+//!
+//! They show what no clause says: that calls succeed where there is memory, and worked examples.
+#![tactic(auto)]
+
+#[cfg(test)]
+mod filling;
+#[cfg(test)]
+mod parts;
+#[cfg(test)]
+mod worked;
