@@ -77,7 +77,10 @@ unread_end asked store read write old WriteFault h k = absurd h
 pub unread_status : (asked : Asked) (store : Option Store) (read : Type 0) (outcome : Outcome) → IsUnread asked store read outcome → (status_of outcome ≡ 0) ⊎ (status_of outcome ≡ 6) → ⊥
 unread_status asked store read (Refused cause) h s = never (subst (λ c. (refusal_status c ≡ 0) ⊎ (refusal_status c ≡ 6)) h.0 s)
   where
-    never : (5 ≡ 0) ⊎ (5 ≡ 6) → ⊥
+    five : ℕ
+    five = 5
+
+    never : (five ≡ 0) ⊎ (five ≡ 6) → ⊥
     never (inl e) = omega (arith, e)
     never (inr e) = omega (arith, e)
 unread_status asked store read ReadFault h (inl e) = omega (arith, e)

@@ -10,10 +10,10 @@ use Rattle.hap_ends.specs.declared.outcome.Outcome.{Outcome}
 use Rattle.hap_ends.specs.declared.outcome.Outcome.TheVariants.{Done, Spent, Usage, Refused, ReadFault, WriteFault, Memory}
 use Rattle.hap_ends.specs.declared.refusal.Refusal.{Refusal}
 use Rattle.hap_ends.specs.Outcomes.{Fails}
-use Rattle.hap_inputs.specs.Spaces.{fault_in, only_few, chain_limit}
-use Rattle.hap_inputs.proofs.CallerLemmas.{few_passes, many_fail}
+use Rattle.hap_inputs.specs.Spaces.{fault_in, only_regular, only_few, chain_limit}
+use Rattle.hap_inputs.proofs.CallerLemmas.{few_passes, many_fail, fails_next}
 use Rattle.hap_cli.specs.Refusals.{cause}
-use Rattle.hap_cli.specs.Answers.{Gives}
+use Rattle.hap_cli.specs.Answers.{Gives, GivesIf}
 use Rattle.hap_cli.specs.Counting.{entries_of}
 
 -- where the stages of a command fail so, it gives no answer but that
@@ -35,3 +35,19 @@ few_steps space old new most none = at (nat_lt chain_limit (chain_count space)) 
     at true e = let same : new ≡ old = none (ltb-true chain_limit (chain_count space) e) in
         subst (λ r. new ≤ old + entries_of r) (sym (many_fail space (ltb-true chain_limit (chain_count space) e))) (omega (arith, same))
     at false e = subst (λ r. new ≤ old + entries_of r) (sym (few_passes space (ltb-false chain_limit (chain_count space) e))) most
+
+-- what is given of a space that is regular
+pub gives_past : {T : Type 0} (space regular : Layers) (P : Layers → T → Type 0) (r : Result T Outcome) → only_regular (Ok space) ≡ Ok regular → regular ≡ space
+    → GivesIf (only_few (Ok regular)) regular (P regular) r → GivesIf (only_few (only_regular (Ok space))) space (P space) r
+gives_past space regular P (Ok value) stage e h = (ap only_few stage ∙ (h.0 ∙ ap Ok e), subst (λ s. P s value) e h.1)
+gives_past space regular P (Err outcome) stage e h = fails_next (only_regular (Ok space)) only_few regular outcome stage h
+
+pub steps_past : (space regular : Layers) (old new : ℕ) → only_regular (Ok space) ≡ Ok regular → new ≤ old + entries_of (only_few (Ok regular))
+    → new ≤ old + entries_of (only_few (only_regular (Ok space)))
+steps_past space regular old new stage h = subst (λ r. new ≤ old + entries_of (only_few r)) (sym stage) h
+
+-- the steps of a space with few enough chains, by all of them
+pub all_steps : (space chains : Layers) (old new : ℕ) → chain_count space ≤ chain_limit → chains ≡ space → new ≤ old + coboundary_entries chains
+    → new ≤ old + entries_of (only_few (Ok space))
+all_steps space chains old new few e h =
+    subst (λ r. new ≤ old + entries_of r) (sym (few_passes space few)) (subst (λ s. new ≤ old + coboundary_entries s) e h)
