@@ -12,8 +12,11 @@ use Rattle.hap_ends.specs.declared.refusal.Refusal.{Refusal}
 use Rattle.hap_ends.specs.Outcomes.{Fails}
 use Rattle.hap_inputs.specs.Spaces.{fault_in, only_regular, only_few, chain_limit}
 use Rattle.hap_inputs.proofs.CallerLemmas.{few_passes, many_fail, fails_next}
-use Rattle.hap_cli.specs.Refusals.{cause}
-use Rattle.hap_cli.specs.Answers.{Gives, GivesIf}
+use Rattle.std.specs.declared.option.Option.{Option}
+use Rattle.tuple_spaces.specs.Torus.{torus_of}
+use Rattle.hap_cli.specs.declared.make.Summary.{Summary}
+use Rattle.hap_cli.specs.Refusals.{cause, made}
+use Rattle.hap_cli.specs.Answers.{Gives, GivesIf, IsSummary, IsMade, summary_text, told_text, chain_numbers}
 use Rattle.hap_cli.specs.Counting.{entries_of}
 
 -- where the stages of a command fail so, it gives no answer but that
@@ -51,3 +54,12 @@ pub all_steps : (space chains : Layers) (old new : ℕ) → chain_count space �
     → new ≤ old + entries_of (only_few (Ok space))
 all_steps space chains old new few e h =
     subst (λ r. new ≤ old + entries_of r) (sym (few_passes space few)) (subst (λ s. new ≤ old + coboundary_entries s) e h)
+
+-- what is told of a torus is what its command answers
+pub made_answer : (size : ℕ) (modulus : Option ℕ) (p : ℕ) (s : Summary) → modulus ≡ Some p → only_few (Ok (torus_of size)) ≡ Ok (torus_of size) → IsSummary size p s
+    → (fault_in (made size modulus) ≡ None) × IsMade size modulus (summary_text s)
+made_answer size modulus p s e few is =
+    let text : summary_text s ≡ told_text size (torus_of size) (chain_numbers (torus_of size)) s.numbers =
+    ap (λ n. told_text n s.space s.chains s.numbers) is.0
+    ∙ (ap (λ (x : Layers). told_text size x s.chains s.numbers) is.1 ∙ ap (λ c. told_text size (torus_of size) c s.numbers) is.2) in
+    subst (λ o. (fault_in (made size o) ≡ None) × IsMade size o (summary_text s)) (sym e) (ap fault_in few, (s.numbers, is.3, text))

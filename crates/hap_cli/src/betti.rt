@@ -4,7 +4,7 @@ ghost use Rattle.small_field.specs.Modulus.{field_of, is_modulus};
 ghost use Rattle.order_complex.specs.Numbers.{AreBetti};
 ghost use Rattle.hap_outside.specs.Causes.{HasCause};
 ghost use Rattle.hap_outside.specs.Writes.{Writes};
-ghost use Rattle.hap_words.specs.Asked.{betti, field_of};
+ghost use Rattle.hap_words.specs.Asked.{betti, field_of as field_asked};
 ghost use Rattle.hap_inputs.specs.Spaces.{only_few, only_regular};
 ghost use Rattle.hap_cli.specs.Answers.{betti_text, Gives, GivesIf};
 ghost use Rattle.hap_cli.specs.Counting.{Counts, entries_of};
@@ -33,8 +33,8 @@ pub fn answer_betti<L: Ledger>(
 ) -> Result<Answer, Outcome>
     requires few { length bytes.now ≤ 67108864 }
     requires modulus { is_modulus options.now.modulus ≡ true }
-    ensures answer { Gives (betti (field_of options.now)) bytes.now result }
-    ensures steps { Counts (betti (field_of options.now)) bytes.now steps.old steps.new }
+    ensures answer { Gives (betti (field_asked options.now)) bytes.now result }
+    ensures steps { Counts (betti (field_asked options.now)) bytes.now steps.old steps.new }
 {
     let space = space_of_bytes(alloc, options.input.kind, bytes)?;
     let numbers = regular_betti(alloc, &space, options.modulus, steps)?;

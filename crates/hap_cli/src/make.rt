@@ -74,13 +74,15 @@ fn summarize<L: Ledger>(
     ensures summary { GivesIf (only_few (Ok (torus_of size))) (torus_of size) (IsSummary size modulus) result }
     ensures steps { steps.new ≤ steps.old + entries_of (only_few (Ok (torus_of size))) }
 {
-    let (chains, numbers) = chains_and_betti(alloc, &space, modulus, steps)?;
-    Ok(Summary {
-        size,
-        space,
-        chains,
-        numbers,
-    })
+    match chains_and_betti(alloc, &space, modulus, steps) {
+        Ok((chains, numbers)) => Ok(Summary {
+            size,
+            space,
+            chains,
+            numbers,
+        }),
+        Err(outcome) => Err(outcome),
+    }
 }
 
 // How many chains of each degree the space has, and its Betti numbers.

@@ -5,7 +5,7 @@ use Rattle.hap_cli.specs.Answers.{components_text}
 use Rattle.hap_cli.proofs.check.answer_check.Goals as goal
 
 pub returns : goal.returns
-returns g c =
+returns c =
     let space = c.in_ok-space.space in
     let regular = passes_next (space_in c.args.options.now.input.kind c.args.bytes.now) only_regular space space c.in_ok-space.ensures c.in_ok-components.ensures.0 in
     (ap fault_in regular, (space, regular, ap (λ n. components_text space n) c.in_ok-components.ensures.1))
