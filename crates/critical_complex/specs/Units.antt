@@ -6,11 +6,11 @@
 --   IsTriangular F s next index u    that is not zero on its own right side, and zero on that of each smaller index
 --   IsIndexOf pairs place index      the index is the one whose pair has the upper at a place
 --   MatchUppers pairs us             each index has an upper, and each upper has exactly one index
-use Rattle.std.specs.Prelude.{◌≡◌, ◌≢◌, ℕ, suc, ◌+◌, ◌-◌, ◌<◌, List, [], ◌∷◌, length, replicate, set, slice_index_or}
+use Rattle.std.specs.Prelude.{◌≡◌, ◌≢◌, ℕ, ◌+◌, ◌-◌, ◌<◌, List, [], ◌∷◌, length, replicate, set, slice_index_or}
 use Rattle.small_field.specs.Field.{Ops}
 use Rattle.linear_laws.specs.Vectors.{combination, dot}
 use Rattle.split_laws.specs.declared.kind.Kind.{Kind}
-use Rattle.split_laws.specs.declared.kind.Kind.TheVariants.{Critical, Lower, Upper}
+use Rattle.split_laws.specs.declared.kind.Kind.TheVariants.{Upper}
 use Rattle.split_laws.specs.declared.matching.Match.{Match}
 use Rattle.split_laws.specs.Pairs.{kind_at}
 use Rattle.critical_complex.specs.declared.unit.Unit.{Unit}

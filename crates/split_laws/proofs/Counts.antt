@@ -1,12 +1,12 @@
 -- There are as many lowers as uppers of one degree more.
-use Rattle.std.proofs.Common.{◌≡◌, ℕ, zero, suc, ◌+◌, ◌<◌, ◌≤◌, List, [], ◌∷◌, length, map, replicate, refl, ap, sym, ◌∙◌, subst, arith}
+use Rattle.std.proofs.Common.{◌≡◌, ℕ, suc, ◌+◌, ◌<◌, ◌≤◌, List, [], ◌∷◌, length, map, replicate, refl, ap, sym, ◌∙◌, subst, arith}
 use Rattle.std.specs.List.{AllByRecursion}
 use Rattle.std.proofs.lemmas.List.{length-map}
 use native.Mathlib.Decide.{dec_lt}
 use Prim.{yes, no}
 use Rattle.small_field.specs.Field.{Ops, IsField}
 use Rattle.linear_laws.specs.Marks.{identity}
-use Rattle.linear_laws.specs.Vectors.{boundary, dot, IsVector, IsMatrix, IsDependent, combination, plus_scaled}
+use Rattle.linear_laws.specs.Vectors.{boundary, IsVector, IsMatrix, IsDependent, combination, plus_scaled}
 use Rattle.linear_laws.proofs.CallerLemmas.{identity_matrix, length-identity, combination-identity, combination-vector, combination-plus, combination-zeros, dot_below, more_are_dependent, no_nonzero, zeros_of_dots}
 use Rattle.split_laws.specs.Kinds.{Kind, Critical, Lower, Upper, criticals, lowers, uppers, part, spread, ZeroOnLowers, ZeroOffLowers, ZeroOffUppers, AgreeOnLowers, AgreeOnUppers}
 use Rattle.split_laws.specs.Split.{IsSplit}

@@ -1,4 +1,4 @@
-use Rattle.std.proofs.Common.{◌≡◌, ◌+◌, ◌≤◌, ℕ, List, [], ◌∷◌, ◌++◌, length, length-append, arith, ap, ◌∙◌, sym, subst}
+use Rattle.std.proofs.Common.{◌≡◌, ◌≤◌, ℕ, List, [], ◌∷◌, ◌++◌, length, length-append, arith, ap, ◌∙◌, sym, subst}
 use Rattle.number_lists.specs.Cuts.{cut, IsCut}
 use Rattle.critical_complex.specs.Columns.{Parts}
 use Rattle.critical_complex.proofs.Cuts.{cut-push, IsCut-push}
