@@ -1,5 +1,6 @@
 pub mod CallerLemmas
 mod ColumnLemmas
+mod Cuts
 mod Filling
 mod Flows
 mod Indexed

@@ -14,7 +14,8 @@ use Rattle.split_laws.specs.Pairs.{Triangular, HasUpper, kind_at}
 use Rattle.critical_complex.specs.declared.unit.Unit.{Unit}
 use Rattle.critical_complex.specs.Stages.{Stage, IsPaired}
 use Rattle.critical_complex.specs.Splits.{stage_at, IsSplitting}
-use Rattle.critical_complex.specs.Units.{no_match, pair_at, IsUnitOf, filled, value_on, IsTriangular, uppers, MatchUppers}
+use Rattle.critical_complex.specs.Units.{no_match, pair_at, IsUnitOf, filled, value_on, IsTriangular, MatchUppers}
+use Rattle.split_laws.specs.Kinds.{uppers}
 use Rattle.critical_complex.proofs.Pairwise.{triangular_at, later_zero}
 
 -- ---- triangular

@@ -1,5 +1,6 @@
 -- Columns of a matrix, as the code keeps them: each by cells of the lower degree, numbered from 1, and their coefficients. cells and
 -- values are one column, columns and values of lists are all of them, y and b lists of numbers by place.
+--   Parts                                  the columns: the cells of each, and their coefficients
 --   coefficient cells values cell          the coefficient of a cell in a column, or 0
 --   row_from columns values cell           its coefficients in all columns
 --   rows_from below columns values         the rows of the cells from 1 to `below`
@@ -11,6 +12,10 @@ use Rattle.std.specs.Prelude.{◌≡◌, ⊤, ℕ, ◌-◌, ◌≤◌, ◌<◌, 
 use Rattle.small_field.specs.Field.{Ops}
 use Rattle.linear_laws.specs.Vectors.{bump}
 use Rattle.face_poset.specs.Words.{upto, holds}
+
+pub record Parts : Type 0 where
+  pub cells : List (List ℕ)
+  pub values : List (List ℕ)
 
 abbrev pub coefficient : (cells values : List ℕ) → (cell : ℕ) → ℕ
 coefficient [] vs cell = 0

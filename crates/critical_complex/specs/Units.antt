@@ -4,14 +4,13 @@
 --   filled n entries                 the n numbers with these entries, which stand at numbers of cells, and 0 elsewhere
 --   value_on F s next u v            the value of the coboundary of the left side of u on the right side of v
 --   IsTriangular F s next index u    that is not zero on its own right side, and zero on that of each smaller index
---   uppers kinds                     how many uppers there are
 --   IsIndexOf pairs place index      the index is the one whose pair has the upper at a place
 --   MatchUppers pairs us             each index has an upper, and each upper has exactly one index
-use Rattle.std.specs.Prelude.{◌≡◌, ◌≢◌, ℕ, suc, ◌+◌, ◌-◌, ◌<◌, List, [], ◌∷◌, length, replicate, set, slice_index_or}
+use Rattle.std.specs.Prelude.{◌≡◌, ◌≢◌, ℕ, ◌+◌, ◌-◌, ◌<◌, List, [], ◌∷◌, length, replicate, set, slice_index_or}
 use Rattle.small_field.specs.Field.{Ops}
 use Rattle.linear_laws.specs.Vectors.{combination, dot}
 use Rattle.split_laws.specs.declared.kind.Kind.{Kind}
-use Rattle.split_laws.specs.declared.kind.Kind.TheVariants.{Critical, Lower, Upper}
+use Rattle.split_laws.specs.declared.kind.Kind.TheVariants.{Upper}
 use Rattle.split_laws.specs.declared.matching.Match.{Match}
 use Rattle.split_laws.specs.Pairs.{kind_at}
 use Rattle.critical_complex.specs.declared.unit.Unit.{Unit}
@@ -48,13 +47,6 @@ pub record IsTriangular (F : Ops) (s next : Stage) (index : ℕ) (u : Unit) : Ty
   pub smaller : (i : ℕ) → i < index → (v : Unit) → IsUnitOf (pair_at s.pairs i) v → value_on F s next u v ≡ 0
 
 -- ---- each upper has its unit
-
--- how many uppers there are
-abbrev pub uppers : List Kind → ℕ
-uppers [] = 0
-uppers (Critical ∷ ts) = uppers ts
-uppers (Lower ∷ ts) = uppers ts
-uppers (Upper ∷ ts) = suc (uppers ts)
 
 -- the index is the one whose pair has the upper at a place
 pub record IsIndexOf (pairs : List Match) (place index : ℕ) : Type 0 where

@@ -6,8 +6,8 @@ ghost use Rattle.critical_complex.specs.Signed.{signed_rows};
 ghost use Rattle.critical_complex.specs.Columns.{coefficient, sum_on, add_on, IsColumn, AreColumns};
 
 use crate::listing::put_signs;
+use crate::parts::Parts;
 use face_poset::Signed;
-use number_lists::Lists;
 use small_field::{Cochain, Field};
 use std::alloc::{AllocError, Global};
 use std::marker::{Model, PhantomData};
@@ -17,8 +17,7 @@ use std::marker::{Model, PhantomData};
 #[derive(Drop)]
 pub(crate) struct Columns<F: Field> {
     below: u32,
-    cells: Lists,
-    values: Lists,
+    parts: Parts,
     of: PhantomData<F>,
 }
 
@@ -29,9 +28,9 @@ impl<F: Field> Model for Columns<F> {
 
     ghost Value = { Rows };
 
-    ghost view = { λ s. record { cols = length s.cells; rows = rows_from s.below s.cells s.values } };
+    ghost view = { λ s. record { cols = length s.parts.cells; rows = rows_from s.below s.parts.cells s.parts.values } };
 
-    ghost invariant = { λ s. AreColumns F.ops s.below s.cells s.values };
+    ghost invariant = { λ s. AreColumns F.ops s.below s.parts.cells s.parts.values };
 }
 
 impl<F: Field> Columns<F> {
@@ -41,8 +40,8 @@ impl<F: Field> Columns<F> {
         requires upper { upper < self.now.cols }
         ensures { F.number_of result ≡ dot F.ops y.now (column upper self.now.rows) }
     {
-        let cells = self.cells.get(upper as usize);
-        let values = self.values.get(upper as usize);
+        let cells = self.parts.cells(upper as usize);
+        let values = self.parts.values(upper as usize);
         sum_over(cells, values, y)
     }
 
@@ -53,8 +52,8 @@ impl<F: Field> Columns<F> {
         requires upper { upper < self.now.cols }
         ensures { F.number_of result ≡ entry self.now.rows lower upper }
     {
-        let cells = self.cells.get(upper as usize);
-        let values = self.values.get(upper as usize);
+        let cells = self.parts.cells(upper as usize);
+        let values = self.parts.values(upper as usize);
         F::from_number(coefficient_in(cells, values, lower + 1))
     }
 
@@ -65,8 +64,8 @@ impl<F: Field> Columns<F> {
         ensures { chain.new ≡ plus_scaled F.ops (F.number_of factor) chain.old (column upper self.now.rows) }
     {
         let _elements = chain.len();
-        let cells = self.cells.get(upper as usize);
-        let values = self.values.get(upper as usize);
+        let cells = self.parts.cells(upper as usize);
+        let values = self.parts.values(upper as usize);
         add_over(cells, values, factor, chain);
     }
 }
@@ -84,56 +83,64 @@ impl<F: Field> Columns<F> {
         ensures rows { IfOk result (λ s. s.rows ≡ signed_rows F.ops (G.space graded.now) (G.negative graded.now) dim) }
     {
         let below = graded.cells(dim);
-        let mut cells = Lists::new(alloc);
-        let mut values = Lists::new(alloc);
+        let count = graded.cells(dim + 1);
+        let room = facet_room(graded, dim + 1);
+        let mut parts = Parts::with_room(alloc, count as usize, room)?;
         let mut signs = Vec::new(alloc);
-        for index in 0..graded.cells(dim + 1) {
+        for index in 0..count {
             put_signs::<F, G>(graded, dim + 1, index + 1, &mut signs)?;
-            cells.push(graded.facets(dim + 1, index + 1))?;
-            values.push(&signs)?;
+            parts.push(graded.facets(dim + 1, index + 1), &signs)?;
         }
         Ok(Columns {
             below,
-            cells,
-            values,
+            parts,
             of: PhantomData,
         })
     }
 }
 
+/// How many facets the cells of a dimension have in all, for the room that they take.
+fn facet_room<G: Signed>(graded: &G, dim: u8) -> usize {
+    let mut room = 0usize;
+    for index in 0..graded.cells(dim) {
+        room = room.saturating_add(graded.facets(dim, index + 1).len());
+    }
+    room
+}
+
 /// The coefficient of a cell in a column.
-fn coefficient_in(cells: &[u32], values: &[u32], cell: u32) -> u32
+fn coefficient_in(cells: &[u32], values: &[u8], cell: u32) -> u32
     requires { length values.now ≡ length cells.now }
     ensures { result ≡ coefficient cells.now values.now cell }
 {
     for index in 0..cells.len() {
         if cells[index] == cell {
-            return values[index];
+            return values[index] as u32;
         }
     }
     0
 }
 
 /// The sum of the coefficients of a column, each times the value at its cell.
-fn sum_over<F: Field>(cells: &[u32], values: &[u32], y: &Cochain<F>) -> F
+fn sum_over<F: Field>(cells: &[u32], values: &[u8], y: &Cochain<F>) -> F
     requires { IsColumn F.ops (length y.now) cells.now values.now }
     ensures { F.number_of result ≡ sum_on F.ops cells.now values.now y.now }
 {
     let mut total = F::zero();
     for index in 0..cells.len() {
-        let value = F::from_number(values[index]);
+        let value = F::from_number(values[index] as u32);
         total = total.add(value.mul(y.get(cells[index])));
     }
     total
 }
 
 /// Adds a factor times each coefficient of a column to the value at its cell.
-fn add_over<F: Field>(cells: &[u32], values: &[u32], factor: F, chain: &mut Cochain<F>)
+fn add_over<F: Field>(cells: &[u32], values: &[u8], factor: F, chain: &mut Cochain<F>)
     requires { IsColumn F.ops (length chain.old) cells.now values.now }
     ensures { chain.new ≡ add_on F.ops cells.now values.now (F.number_of factor) chain.old }
 {
     for index in 0..cells.len() {
-        let share = factor.mul(F::from_number(values[index]));
+        let share = factor.mul(F::from_number(values[index] as u32));
         let value = chain.get(cells[index]).add(share);
         chain.set(cells[index], value);
     }

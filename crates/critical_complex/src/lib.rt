@@ -10,6 +10,7 @@ mod filled;
 mod flow;
 mod indexes;
 mod listing;
+mod parts;
 mod reach;
 mod reduced;
 mod stage;

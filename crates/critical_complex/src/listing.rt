@@ -22,6 +22,7 @@ pub(crate) fn list_kinds(
     ensures { IfOk result (λ kinds. AreKinds field.now.pairs dim cells kinds.items) }
 {
     let mut kinds = Vec::new(alloc);
+    kinds.reserve(cells as usize)?;
     for index in 0..cells {
         kinds.push(kind_of(field, dim, index + 1))?;
     }
@@ -63,7 +64,7 @@ pub(crate) fn put_signs<F: Field, G: Signed>(
     graded: &G,
     dim: u8,
     cell: u32,
-    signs: &mut Vec<u32>,
+    signs: &mut Vec<u8>,
 ) -> Result<(), AllocError>
     requires first { 1 ≤ cell }
     requires last { cell ≤ count (G.space graded.now) dim }
@@ -103,7 +104,7 @@ fn put_critical(critical: &mut Vec<u32>, kind: Kind, number: u32) -> Result<(), 
 }
 
 /// The number of the sign of a facet.
-fn sign_number<F: Field, G: Signed>(graded: &G, dim: u8, cell: u32, facet: u32) -> u32
+fn sign_number<F: Field, G: Signed>(graded: &G, dim: u8, cell: u32, facet: u32) -> u8
     requires first { 1 ≤ cell }
     requires last { cell ≤ count (G.space graded.now) dim }
     requires facet { Contains (facets_of (G.space graded.now) dim cell) facet }
@@ -111,8 +112,8 @@ fn sign_number<F: Field, G: Signed>(graded: &G, dim: u8, cell: u32, facet: u32) 
 {
     let one = F::one();
     if graded.sign(dim, cell, facet) < 0 {
-        one.neg().to_number()
+        one.neg().to_number() as u8
     } else {
-        one.to_number()
+        one.to_number() as u8
     }
 }

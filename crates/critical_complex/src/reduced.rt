@@ -1,10 +1,10 @@
 // The reduction of a signed set to the critical cells of a field of pairs.
 ghost use Rattle.std.specs.Prelude.{◌≡◌, ◌+◌, ◌<◌, ◌≤◌, ℕ, suc, length, IfOk};
 ghost use Rattle.vector_field.specs.Pairs.{IsFieldOf};
-ghost use Rattle.split_laws.specs.Kinds.{criticals};
+ghost use Rattle.split_laws.specs.Kinds.{criticals, uppers};
 ghost use Rattle.critical_complex.specs.Stages.{critical_from, IsPaired};
 ghost use Rattle.critical_complex.specs.Reaches.{AreDegrees};
-ghost use Rattle.critical_complex.specs.Units.{uppers, pair_at, IsTriangular, IsUnitOf, MatchUppers};
+ghost use Rattle.critical_complex.specs.Units.{pair_at, IsTriangular, IsUnitOf, MatchUppers};
 ghost use Rattle.critical_complex.specs.Splits.{stage_at, cells_at, kinds_at, AreFilled, AreFilledAt, IsClearedAt, IsExtensionAt, IsFilledAt, IsFlowAt, IsReducedAt, IsReductionOf, IsSplitting};
 
 use crate::cleared::Cleared;

@@ -7,3 +7,5 @@ mod Fields
 mod Linear
 mod Steps
 mod Bases
+mod Flows
+mod Counts

@@ -1,6 +1,7 @@
 -- A split sorts the cells of each degree into critical ones, lowers and uppers. (Discrete Morse theory; R. Forman.)
 -- ts is the list of the kinds of the cells of a degree, xs and ys lists with a value for each cell.
 --   criticals ts             how many critical cells there are
+--   lowers ts, uppers ts     how many lowers, and how many uppers
 --   part ts xs               the values on critical cells, in their order
 --   spread ts w              the values w for critical cells, and zero elsewhere
 --   ZeroOnUppers ts xs       zero on uppers
@@ -19,6 +20,18 @@ criticals [] = 0
 criticals (Critical ∷ ts) = suc (criticals ts)
 criticals (Lower ∷ ts) = criticals ts
 criticals (Upper ∷ ts) = criticals ts
+
+abbrev pub lowers : List Kind → ℕ
+lowers [] = 0
+lowers (Critical ∷ ts) = lowers ts
+lowers (Lower ∷ ts) = suc (lowers ts)
+lowers (Upper ∷ ts) = lowers ts
+
+abbrev pub uppers : List Kind → ℕ
+uppers [] = 0
+uppers (Critical ∷ ts) = uppers ts
+uppers (Lower ∷ ts) = uppers ts
+uppers (Upper ∷ ts) = suc (uppers ts)
 
 abbrev pub part : List Kind → List ℕ → List ℕ
 part [] xs = []

@@ -4,6 +4,8 @@
 --   IsOne P                        exactly one list has P
 --   SolutionsAreOne F              there is exactly one extension, one flow and one clearing
 --   ExtensionsPair F               the value of an extension on a flow is the pairing of their values on critical cells
+--   SolutionsCombine F             the extension and the flow of a combination are the combinations of the extensions and of the flows
+--   CellsAreCounted F              each cell is critical, a lower or an upper, and there are as many lowers as uppers of one degree more
 --   ReducedRowsAreCoboundaries F   the coboundary of an extension is, at the critical cells, the combination of the reduced rows
 --   ExtensionsCommute F            the coboundary of an extension is the extension of the reduced coboundary
 --   ReducedIsClosed F              two reduced steps give zero
@@ -18,9 +20,9 @@ use Rattle.small_field.specs.Field.{Ops}
 use Rattle.linear_laws.specs.Vectors.{boundary, combination, dot, IsVector, IsInKernel}
 use Rattle.linear_laws.specs.Echelon.{IsReducedTo}
 use Rattle.linear_laws.specs.Betti.{IsCohomologyBasis}
-use Rattle.split_laws.specs.Kinds.{Kind, criticals, part, ZeroOnUppers, ZeroOnLowers}
+use Rattle.split_laws.specs.Kinds.{Kind, criticals, lowers, uppers, part, ZeroOnUppers, ZeroOnLowers}
 use Rattle.split_laws.specs.Split.{IsSplit}
-use Rattle.split_laws.specs.Solutions.{IsExtension, AreExtensions, IsFlow, IsCleared, IsReducedBy, without}
+use Rattle.split_laws.specs.Solutions.{IsExtension, AreExtensions, IsFlow, AreFlows, IsCleared, IsReducedBy, without}
 use Rattle.split_laws.specs.Pairs.{Match, IsMatching, settle, carry}
 use Rattle.split_laws.specs.Complex.{IsSplitComplex, AreReduced}
 
@@ -52,6 +54,16 @@ abbrev pub ExtensionsPair : Ops → Type 0
 ExtensionsPair F =
     (n m l : ℕ) (last next : List (List ℕ)) (ts us vs : List Kind) (w x c z : List ℕ)
     → IsExtension F m l next us vs w x → IsFlow F n m last ts us c z → dot F x z ≡ dot F w c
+
+pub record SolutionsCombine (F : Ops) : Type 0 where
+  pub extension : (n m : ℕ) (rows : List (List ℕ)) (ts us : List Kind) → IsSplit F n m rows ts us → (cs : List ℕ) (ws xs : List (List ℕ)) → AreExtensions F n m rows ts us ws xs
+      → IsExtension F n m rows ts us (combination F (criticals ts) cs ws) (combination F n cs xs)
+  pub flow : (n m : ℕ) (rows : List (List ℕ)) (ts us : List Kind) → IsSplit F n m rows ts us → (cs : List ℕ) (ws zs : List (List ℕ)) → AreFlows F n m rows ts us ws zs
+      → IsFlow F n m rows ts us (combination F (criticals us) cs ws) (combination F m cs zs)
+
+pub record CellsAreCounted (F : Ops) : Type 0 where
+  pub kinds : (ts : List Kind) → criticals ts + lowers ts + uppers ts ≡ length ts
+  pub pairs : (n m : ℕ) (rows : List (List ℕ)) (ts us : List Kind) → IsSplit F n m rows ts us → lowers ts ≡ uppers us
 
 abbrev pub ReducedRowsAreCoboundaries : Ops → Type 0
 ReducedRowsAreCoboundaries F =

@@ -4,6 +4,7 @@
 --   AreExtensions F n m rows ts us ws xs   each of the cochains xs is the extension of one of the ws, in their order
 --   IsFlow F n m rows ts us c z            the chain z, on the m cells, is c on critical cells and zero on lowers, and its boundary is zero
 --                                          on lowers
+--   AreFlows F n m rows ts us cs zs        each of the chains zs is the flow of one of the cs, in their order
 --   without F m rows x y                   the cochain x, on the m cells, less the coboundary of y
 --   IsCleared F n m rows ts us x w y       the cochain y is zero but on lowers, and x less the coboundary of y is zero on uppers and w on
 --                                          critical cells
@@ -32,6 +33,12 @@ pub record IsFlow (F : Ops) (n m : ℕ) (rows : List (List ℕ)) (ts us : List K
   pub own : part us z ≡ c
   pub none : ZeroOnLowers us z
   pub closed : ZeroOnLowers ts (boundary F rows z)
+
+abbrev pub AreFlows : Ops → (n m : ℕ) → (rows : List (List ℕ)) → (ts us : List Kind) → (cs zs : List (List ℕ)) → Type 0
+AreFlows F n m rows ts us [] [] = ⊤
+AreFlows F n m rows ts us [] (z ∷ zs) = ⊥
+AreFlows F n m rows ts us (c ∷ cs) [] = ⊥
+AreFlows F n m rows ts us (c ∷ cs) (z ∷ zs) = IsFlow F n m rows ts us c z × AreFlows F n m rows ts us cs zs
 
 abbrev pub without : Ops → (m : ℕ) → (rows : List (List ℕ)) → (x y : List ℕ) → List ℕ
 without F m rows x y = plus_scaled F (F.neg 1) x (combination F m y rows)

@@ -10,7 +10,7 @@
 mod kind;
 mod matching;
 
-ghost use Rattle.split_laws.specs.Laws.{FieldsSplit, SubstitutionSolves, SolutionsAreOne, ExtensionsPair, ReducedRowsAreCoboundaries, ExtensionsCommute, ReducedIsClosed, FlowsCommute, CocyclesAreExtensions, BasesExtend, BettiByReducedRanks};
+ghost use Rattle.split_laws.specs.Laws.{FieldsSplit, SubstitutionSolves, SolutionsAreOne, SolutionsCombine, CellsAreCounted, ExtensionsPair, ReducedRowsAreCoboundaries, ExtensionsCommute, ReducedIsClosed, FlowsCommute, CocyclesAreExtensions, BasesExtend, BettiByReducedRanks};
 
 pub use kind::Kind;
 pub use matching::Match;
@@ -30,6 +30,16 @@ pub fn substitution_solves<F: Field>()
 /// There is exactly one extension, one flow and one clearing.
 pub fn solutions_are_one<F: Field>()
     ensures { SolutionsAreOne F.ops }
+{}
+
+/// The extension of a combination is the combination of the extensions, and so with flows.
+pub fn solutions_combine<F: Field>()
+    ensures { SolutionsCombine F.ops }
+{}
+
+/// Each cell is critical, a lower or an upper, and a degree has as many lowers as the next has uppers.
+pub fn cells_are_counted<F: Field>()
+    ensures { CellsAreCounted F.ops }
 {}
 
 /// The value of an extension on a flow of its degree is the pairing of their values on critical cells.

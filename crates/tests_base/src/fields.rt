@@ -1,11 +1,12 @@
-// Arithmetic modulo each of the four primes, by tables, and sparse rows.
+// Arithmetic of each field, by tables, and sparse rows.
 ghost use Rattle.std.specs.Prelude.{◌<◌, length};
 
 use linear_laws::{
-    bases_are_as_long, basis_by_ranks, combination_laws, more_are_dependent, rank_is_dimension,
-    rows_have_a_basis, triangles_are_independent,
+    bases_are_as_long, basis_by_ranks, combination_laws, history_gives_kernel,
+    independent_vectors_span, kernels_complete, more_are_dependent, rank_is_dimension,
+    rows_have_a_basis, triangles_are_independent, triangles_certify, zero_rows_change_no_rank,
 };
-use small_field::{Cochain, Entry, Field, Gfp, Sparse, further_laws};
+use small_field::{Cochain, Entry, Field, Gf4, Gf9, Gfp, Sparse, further_laws};
 use std::alloc::{AllocError, Global};
 use std::process::Abort;
 use std::test::Fail;
@@ -32,6 +33,21 @@ fn compare_pairs<F: Field>(rt: &impl Abort) {
     }
 }
 
+/// Compares the sums and the products of all pairs with the digits of two tables, row after row.
+fn compare_tables<F: Field>(rt: &impl Abort, sums: &[u8], products: &[u8]) {
+    for x in 0..F::SIZE {
+        for y in 0..F::SIZE {
+            let left = F::from_number(x);
+            let right = F::from_number(y);
+            let place = x.wrapping_mul(F::SIZE).wrapping_add(y) as usize;
+            let sum = b'0' + left.add(right).to_number() as u8;
+            let product = b'0' + left.mul(right).to_number() as u8;
+            assert_eq!(rt; sums.get(place).copied(), Some(sum));
+            assert_eq!(rt; products.get(place).copied(), Some(product));
+        }
+    }
+}
+
 /// The negative and the inverse of a number.
 fn turned<F: Field>(number: u32) -> (u32, u32)
     requires some { 0 < number }
@@ -53,11 +69,55 @@ fn compare_turned<F: Field>(rt: &impl Abort, wanted: &[(u32, u32)])
 }
 
 #[test]
-fn arithmetic_is_that_of_the_tables(rt: HostRuntime) {
+fn arithmetic_is_that_of_numbers_modulo_primes(rt: HostRuntime) {
     compare_pairs::<Gfp<2>>(&rt);
     compare_pairs::<Gfp<3>>(&rt);
     compare_pairs::<Gfp<5>>(&rt);
     compare_pairs::<Gfp<7>>(&rt);
+    compare_pairs::<Gfp<11>>(&rt);
+    compare_pairs::<Gfp<13>>(&rt);
+}
+
+// The number a + 2 b stands for a + b x, modulo 2, where x x is 1 + x.
+#[test]
+fn arithmetic_of_four_elements_is_that_of_the_tables(rt: HostRuntime) {
+    let sums = b"\
+        0123\
+        1032\
+        2301\
+        3210";
+    let products = b"\
+        0000\
+        0123\
+        0231\
+        0312";
+    compare_tables::<Gf4>(&rt, sums, products);
+}
+
+// The number a + 3 b stands for a + b x, modulo 3, where x x is 2.
+#[test]
+fn arithmetic_of_nine_elements_is_that_of_the_tables(rt: HostRuntime) {
+    let sums = b"\
+        012345678\
+        120453786\
+        201534867\
+        345678012\
+        453786120\
+        534867201\
+        678012345\
+        786120453\
+        867201534";
+    let products = b"\
+        000000000\
+        012345678\
+        021687354\
+        036258147\
+        048561723\
+        057813462\
+        063174285\
+        075426831\
+        084732516";
+    compare_tables::<Gf9>(&rt, sums, products);
 }
 
 #[test]
@@ -66,6 +126,22 @@ fn negatives_and_inverses_are_those_of_the_tables(rt: HostRuntime) {
     compare_turned::<Gfp<3>>(&rt, &[(2, 1), (1, 2)]);
     compare_turned::<Gfp<5>>(&rt, &[(4, 1), (3, 3), (2, 2), (1, 4)]);
     compare_turned::<Gfp<7>>(&rt, &[(6, 1), (5, 4), (4, 5), (3, 2), (2, 3), (1, 6)]);
+    compare_turned::<Gfp<11>>(&rt, &[(10, 1), (9, 6), (8, 4), (7, 3), (6, 9), (5, 2)]);
+    compare_turned::<Gfp<13>>(&rt, &[(12, 1), (11, 7), (10, 9), (9, 10), (8, 8), (7, 11)]);
+    compare_turned::<Gf4>(&rt, &[(1, 1), (2, 3), (3, 2)]);
+    compare_turned::<Gf9>(
+        &rt,
+        &[
+            (2, 1),
+            (1, 2),
+            (6, 6),
+            (8, 5),
+            (7, 4),
+            (3, 3),
+            (5, 8),
+            (4, 7),
+        ],
+    );
 }
 
 #[test]
@@ -118,6 +194,11 @@ fn ask<F: Field>() {
     rank_is_dimension::<F>();
     basis_by_ranks::<F>();
     triangles_are_independent::<F>();
+    zero_rows_change_no_rank::<F>();
+    history_gives_kernel::<F>();
+    kernels_complete::<F>();
+    independent_vectors_span::<F>();
+    triangles_certify::<F>();
 }
 
 #[test]
@@ -126,4 +207,8 @@ fn the_laws_hold_over_each_field() {
     ask::<Gfp<3>>();
     ask::<Gfp<5>>();
     ask::<Gfp<7>>();
+    ask::<Gfp<11>>();
+    ask::<Gfp<13>>();
+    ask::<Gf4>();
+    ask::<Gf9>();
 }

@@ -1,7 +1,8 @@
-// Rows modulo each small prime, of each length up to 200, beside sums of single entries.
+// Rows of elements of each field, of each length up to 200, beside sums of single entries.
 ghost use Rattle.std.specs.Prelude.{◌≡◌, ◌<◌, ◌≤◌, All, IfOk, length};
 
 use lane_rows::{add_scaled, compose8, dot, first_nonzero, scale};
+use small_field::{Field, Gf4, Gf9, Gfp};
 use std::alloc::{AllocError, Global};
 use std::process::Abort;
 use std::test::Fail;
@@ -75,6 +76,58 @@ fn loops_agree_with_single_entries(rt: HostRuntime) -> Result<(), Fail> {
             compare_multiples(&rt, len, p)?;
             compare_products(&rt, len, p)?;
         }
+    }
+    Ok(())
+}
+
+/// The sum of a row and a multiple of a row of elements of a field.
+fn compare_rows<F: Field>(rt: &(impl Abort + AllocGlobal), len: usize) -> Result<(), Fail>
+    requires len { len ≤ 200 }
+    requires size { 1 < F.SIZE }
+{
+    let size = F::SIZE as u8;
+    let factor = F::from_number(F::SIZE - 1);
+    let mut sum = row(rt.alloc(), len, 7, 3, size)?;
+    F::add_scaled_row(&mut sum, &row(rt.alloc(), len, 5, 1, size)?, factor);
+    for (i, found) in sum.iter().enumerate() {
+        let left = F::from_number((7 * i as u32 + 3) % F::SIZE);
+        let right = F::from_number((5 * i as u32 + 1) % F::SIZE);
+        let wanted = left.add(factor.mul(right)).to_number();
+        assert_eq!(rt; *found as u32, wanted, "{size} at {i}");
+    }
+    Ok(())
+}
+
+#[test]
+fn rows_of_elements_agree_with_single_elements(rt: HostRuntime) -> Result<(), Fail> {
+    for len in 0..201 {
+        compare_rows::<Gfp<2>>(&rt, len)?;
+        compare_rows::<Gfp<3>>(&rt, len)?;
+        compare_rows::<Gf4>(&rt, len)?;
+        compare_rows::<Gfp<5>>(&rt, len)?;
+        compare_rows::<Gfp<7>>(&rt, len)?;
+        compare_rows::<Gf9>(&rt, len)?;
+        compare_rows::<Gfp<11>>(&rt, len)?;
+        compare_rows::<Gfp<13>>(&rt, len)?;
+    }
+    Ok(())
+}
+
+/// The first number that is not 0 after so many zeros.
+fn compare_first(rt: &(impl Abort + AllocGlobal), zeros: usize) -> Result<(), Fail>
+    requires { zeros ≤ 200 }
+{
+    let mut numbers = vec![in rt.alloc(); 0u8; zeros]?;
+    assert_eq!(rt; first_nonzero(&numbers), None);
+    numbers.extend_from_slice(&[5, 0, 7])?;
+    assert_eq!(rt; first_nonzero(&numbers), Some(zeros as u32));
+    Ok(())
+}
+
+#[test]
+fn a_number_is_found_after_each_number_of_zeros(rt: HostRuntime) -> Result<(), Fail> {
+    for zeros in 0..201 {
+        compare_first(&rt, zeros)?;
     }
     Ok(())
 }

@@ -1,9 +1,9 @@
-// Elimination by worked examples modulo each of the four primes.
+// Elimination by worked examples, and over each field.
 ghost use Rattle.std.specs.Prelude.{◌≡◌, ◌<◌, IfOk, length};
 ghost use Rattle.linear_laws.specs.Echelon.{IsReduced};
 
 use field_matrix::{Elimination, Matrix, Row};
-use small_field::{Field, Gfp};
+use small_field::{Field, Gf4, Gf9, Gfp};
 use std::alloc::{AllocError, Global};
 use std::marker::Brand;
 use std::process::Abort;
@@ -221,6 +221,23 @@ fn a_matrix_is_copied(rt: HostRuntime) -> Result<(), Fail> {
     Ok(())
 }
 
+/// The numbers of four rows: two rows and one that is pushed, at the places 3, 0 and 1, and a row of zeros.
+fn spread<F: Field>(alloc: Global) -> Result<Vec<u32>, AllocError> {
+    let mut matrix = filled::<F>(alloc, &[[1, 2, 3], [4, 0, 1]])?;
+    matrix.push_row(&filled_row(alloc, [0, 1, 0])?)?;
+    numbers_of(alloc, &matrix.among_zeros(alloc, &[3, 0, 1], 4)?)
+}
+
+#[test]
+fn rows_stand_among_zeros(rt: HostRuntime) -> Result<(), Fail> {
+    let numbers = spread::<Gfp<5>>(rt.alloc())?;
+    assert_eq!(rt;
+        numbers.as_slice(),
+        [4u32, 0, 1, 0, 1, 0, 0, 0, 0, 1, 2, 3].as_slice()
+    );
+    Ok(())
+}
+
 /// Each call on the rows (1, 0, 0) and (0, 1, 0).
 fn compare_identity<F: Field>(rt: &(impl Abort + AllocGlobal)) -> Result<(), Fail> {
     let alloc = rt.alloc();
@@ -244,6 +261,7 @@ fn compare_identity<F: Field>(rt: &(impl Abort + AllocGlobal)) -> Result<(), Fai
         eliminated::<F>(alloc, &rows)?.1.as_slice(),
         [1u32, 0, 0, 1].as_slice()
     );
+    assert_eq!(rt; spread::<F>(alloc)?.len(), 12);
     Ok(())
 }
 
@@ -252,5 +270,9 @@ fn each_field_is_treated_alike(rt: HostRuntime) -> Result<(), Fail> {
     compare_identity::<Gfp<2>>(&rt)?;
     compare_identity::<Gfp<3>>(&rt)?;
     compare_identity::<Gfp<5>>(&rt)?;
-    compare_identity::<Gfp<7>>(&rt)
+    compare_identity::<Gfp<7>>(&rt)?;
+    compare_identity::<Gfp<11>>(&rt)?;
+    compare_identity::<Gfp<13>>(&rt)?;
+    compare_identity::<Gf4>(&rt)?;
+    compare_identity::<Gf9>(&rt)
 }

@@ -1,8 +1,10 @@
-//! Tests of fields of pairs with more pairs, and of the parts of a space.
+//! Tests of fields of pairs with more pairs, of the parts of a space, and of collapses.
 //!
 //! They show what no clause says: that calls succeed where there is memory, and worked examples.
 #![tactic(auto)]
 
+#[cfg(test)]
+mod collapses;
 #[cfg(test)]
 mod filling;
 #[cfg(test)]

@@ -1,0 +1,5 @@
+use Rattle.chosen_field.proofs.LooseEdges.{loose_edges_join}
+use Rattle.chosen_field.proofs.laws.loose_edges_join.Goals as goal
+
+pub returns : goal.returns
+returns c = loose_edges_join c.cycles_go_round.ensures c.same_component_is_a_path.ensures c.components_are_numbered.ensures
