@@ -14,11 +14,7 @@ use hap_words::InputOptions;
 use std::alloc::Global;
 
 /// The space of the input.
-pub fn answer_cells(
-    alloc: Global,
-    options: &InputOptions,
-    bytes: &[u8],
-) -> Result<Answer, Outcome>
+pub fn answer_cells(alloc: Global, options: &InputOptions, bytes: &[u8]) -> Result<Answer, Outcome>
     requires { length bytes.now ≤ 67108864 }
     ensures { Gives (cells (input_of options.now)) bytes.now result }
 {

@@ -17,11 +17,7 @@ use hap_words::InputOptions;
 use std::alloc::Global;
 
 /// The regular space of the input, and how many components it has.
-pub fn answer_check(
-    alloc: Global,
-    options: &InputOptions,
-    bytes: &[u8],
-) -> Result<Answer, Outcome>
+pub fn answer_check(alloc: Global, options: &InputOptions, bytes: &[u8]) -> Result<Answer, Outcome>
     requires { length bytes.now ≤ 67108864 }
     ensures { Gives (check (input_of options.now)) bytes.now result }
 {

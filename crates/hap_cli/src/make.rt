@@ -57,7 +57,13 @@ pub fn answer_make<L: Ledger>(
     let space = torus(alloc, options.size)?;
     match options.modulus {
         None => Ok(Answer::Boundaries(space)),
-        Some(modulus) => Ok(Answer::Summary(summarize(alloc, options.size, modulus, space, steps)?)),
+        Some(modulus) => Ok(Answer::Summary(summarize(
+            alloc,
+            options.size,
+            modulus,
+            space,
+            steps,
+        )?)),
     }
 }
 
@@ -132,11 +138,7 @@ fn write_torus<K: Sink>(out: &mut K, size: u32, space: &Space) -> Result<(), Fai
 }
 
 // Writes how many chains there are, and their Betti numbers.
-fn write_homology<K: Sink>(
-    out: &mut K,
-    chains: ChainNumbers,
-    numbers: &Betti,
-) -> Result<(), Failed>
+fn write_homology<K: Sink>(out: &mut K, chains: ChainNumbers, numbers: &Betti) -> Result<(), Failed>
     ensures bytes { Writes (K.written out.old) (K.written out.new) (chains_text chains ++ betti_text numbers.now) result }
     ensures cause { HasCause (K.faults out.old) (K.faults out.new) result }
 {

@@ -1,12 +1,12 @@
 -- The text of a spot as it is put.
-use Rattle.std.proofs.Common.{◌≡◌, ℕ, suc, ◌+◌, ◌==◌, Bool, true, false, List, [], ◌∷◌, ◌++◌, codes, map, take, drop, get_or, length, ◌<◌, refl, sym, ap, ◌∙◌, append_assoc, subst, inl, inr, arith, ◌≤◌, ◌-◌}
+use Rattle.std.proofs.Common.{◌≡◌, ℕ, suc, ◌+◌, ◌==◌, Bool, true, false, List, [], ◌∷◌, ◌++◌, codes, take, drop, get_or, length, ◌<◌, refl, sym, ap, ◌∙◌, append_assoc, subst, inl, inr, arith, ◌≤◌, ◌-◌}
 use Rattle.std.specs.Prelude.{decimal, if◌then◌else◌}
 use Rattle.std.specs.List.{All, flat_map}
 use Rattle.std.proofs.lemmas.List.{append-nil, take-append-drop, take_more, drop_more, take_all}
 use Rattle.std.proofs.lemmas.List.Elements.{All-nil}
 use Rattle.std.proofs.lemmas.List.Concat.{flat_map-append}
 use Rattle.sheet_tables.specs.Positions.{cells_text, position_text, IsPosition}
-use Rattle.sheet_tables.specs.Spots.{spot_text, Mark}
+use Rattle.sheet_tables.specs.Spots.{Mark}
 use Rattle.hap_ends.specs.Refusals.{spent_front, spent_line, later_cells}
 
 -- cells with commas between them: the first, and each later one behind a comma

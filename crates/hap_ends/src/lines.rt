@@ -22,11 +22,7 @@ pub fn write_count<'a, E: Sink>(
 {
     write_pieces(
         err,
-        &[
-            Piece::Text(before),
-            Piece::Count(count),
-            Piece::Text(after),
-        ],
+        &[Piece::Text(before), Piece::Count(count), Piece::Text(after)],
     )
 }
 
@@ -105,7 +101,6 @@ pub fn write_space<E: Sink>(err: &mut E, fault: SpaceFault) -> Result<(), Failed
         SpaceFault::Memory => write_all(err, b"hap: want of memory\n"),
     }
 }
-
 
 fn write_cell<E: Sink>(err: &mut E, words: &[u8], cell: Cell) -> Result<(), Failed>
     ensures bytes { Writes (E.written err.old) (E.written err.new) (refusals.cell_line words.now cell) result }

@@ -50,13 +50,23 @@ pub fn write_refusal<E: Sink>(err: &mut E, refusal: &Refusal) -> Result<(), Fail
     ensures cause { HasCause (E.faults err.old) (E.faults err.new) result }
 {
     match refusal {
-        Refusal::TooLong(limit) => write_count(err, b"hap: limit: input over ", *limit, b" bytes\n"),
+        Refusal::TooLong(limit) => write_count(
+            err,
+            b"hap: limit: input over ",
+            *limit,
+            b" bytes\n",
+        ),
         Refusal::Text(fault) => write_text(err, *fault),
         Refusal::Space(fault) => write_space(err, *fault),
         Refusal::Array(fault) => write_array(err, *fault),
         Refusal::Irregular(fault) => write_regular(err, *fault),
         Refusal::Components(count) => {
-            write_count(err, b"hap: limit: only ", u64::from(*count), b" components\n")
+            write_count(
+                err,
+                b"hap: limit: only ",
+                u64::from(*count),
+                b" components\n",
+            )
         }
         Refusal::Chains(count) => write_count(err, b"hap: limit: ", *count, b" chains\n"),
         Refusal::Classes(count) => {

@@ -45,11 +45,7 @@ fn put_front<E: Sink>(err: &mut E, held: &mut Held, component: u32) -> Result<()
     )
 }
 
-fn put_position<E: Sink>(
-    err: &mut E,
-    held: &mut Held,
-    position: &Position,
-) -> Result<(), Failed>
+fn put_position<E: Sink>(err: &mut E, held: &mut Held, position: &Position) -> Result<(), Failed>
     ensures bytes { Gathers (E.written err.old) (E.written err.new) held.old held.new
         (position_text position.now.sheets position.now.cells) result }
     ensures cause { HasCause (E.faults err.old) (E.faults err.new) result }
@@ -63,12 +59,7 @@ fn put_position<E: Sink>(
 }
 
 // The cells, each but the first with a comma before it.
-fn put_cells<E: Sink>(
-    err: &mut E,
-    held: &mut Held,
-    first: u8,
-    rest: &[u8],
-) -> Result<(), Failed>
+fn put_cells<E: Sink>(err: &mut E, held: &mut Held, first: u8, rest: &[u8]) -> Result<(), Failed>
     requires first { first ≤ 8 }
     requires rest { All (λ c. c ≤ 8) rest.now }
     ensures bytes { Gathers (E.written err.old) (E.written err.new) held.old held.new

@@ -1,10 +1,10 @@
 -- An input that is longer than the limit.
-use Rattle.std.proofs.Common.{◌≡◌, ℕ, ◌<◌, ◌+◌, false, true, List, length, length-append, None, Some, Result, Ok, refl, ap, ◌∙◌, subst, arith}
+use Rattle.std.proofs.Common.{◌≡◌, ℕ, ◌<◌, ◌+◌, false, true, List, length, length-append, None, Some, Ok, refl, ap, subst, arith}
 use Rattle.std.specs.Prelude.{IsSome}
 use Rattle.std.specs.declared.option.Option.{Option}
 use Rattle.std.specs.Io.KnownBytes.{Consumes}
 use Rattle.hap_outside.specs.Stores.{Store, Opens}
-use Rattle.hap_inputs.specs.Input.{Has, OnNamed}
+use Rattle.hap_inputs.specs.Input.{OnNamed}
 
 -- the source has bytes under the name that are more than the limit, where so many were read
 pub long_input : (T E : Type 0) (store : Option Store) (name left new : Option (List ℕ)) (limit : ℕ) (bytes : List ℕ) (x : T)

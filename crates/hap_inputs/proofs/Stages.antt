@@ -1,5 +1,5 @@
 -- From a call that reads to the stages of the reading.
-use Rattle.std.proofs.Common.{◌≡◌, ℕ, ◌≤◌, ◌<◌, ◌+◌, Bool, true, false, List, length, None, Some, Result, Ok, Err, refl, sym, ap, ◌∙◌, subst, arith, ◌≢◌}
+use Rattle.std.proofs.Common.{◌≡◌, ℕ, ◌≤◌, ◌<◌, Bool, true, false, List, Result, Ok, Err, refl, sym, ap, ◌∙◌, subst, arith, ◌≢◌}
 use Rattle.std.specs.Prelude.{nat_lt, if◌then◌else◌}
 use Rattle.std.proofs.lemmas.Bool.{ltb-true, ltb-false}
 use Rattle.face_poset.specs.Poset.{Layers}
@@ -22,7 +22,6 @@ use Rattle.order_complex.specs.declared.fault.ChainFault.TheVariants as in_chain
 use Rattle.order_complex.specs.Chains.{chain_count}
 use Rattle.order_complex.specs.Complex.{IsRefused}
 use Rattle.hap_ends.specs.declared.outcome.Outcome.{Outcome}
-use Rattle.hap_ends.specs.declared.outcome.Outcome.TheVariants.{Refused, Memory}
 use Rattle.hap_ends.specs.declared.refusal.Refusal.{Refusal}
 use Rattle.hap_ends.specs.declared.refusal.Refusal.TheVariants.{Chains}
 use Rattle.hap_inputs.specs.Spaces.{space_in, space_of_kind, of_text, of_value, of_array, unless_broken, only_regular, only_few, chain_limit}

@@ -23,7 +23,16 @@ fn betti_numbers_are_written(rt: HostRuntime) -> Result<(), Fail> {
         (SPHERE, b"betti 1 0 0 1\n", b"betti 1 0 0 1\n"),
         (EDGES, b"betti 1 13 0 0\n", b"betti 1 13 0 0\n"),
     ] {
-        for (modulus, out) in [("2", even), ("3", odd), ("5", odd), ("7", odd)] {
+        for (modulus, out) in [
+            ("2", even),
+            ("3", odd),
+            ("4", even),
+            ("5", odd),
+            ("7", odd),
+            ("9", odd),
+            ("11", odd),
+            ("13", odd),
+        ] {
             expect(&rt, &["betti", "--mod", modulus], text, (0, out, b""))?;
         }
     }
@@ -35,6 +44,7 @@ fn the_modulus_is_two_unless_given(rt: HostRuntime) -> Result<(), Fail> {
     for (words, out) in [
         (["betti"].as_slice(), b"betti 1 1 1 0\n".as_slice()),
         (&["betti", "--mod", "05"], b"betti 1 0 0 0\n"),
+        (&["betti", "--mod", "04"], b"betti 1 1 1 0\n"),
         (&["--mod=7", "betti"], b"betti 1 0 0 0\n"),
     ] {
         expect(&rt, words, PLANE, (0, out, b""))?;

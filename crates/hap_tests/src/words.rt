@@ -7,11 +7,13 @@ const USAGE: &[u8] =
 
 #[test]
 fn other_words_are_usage(rt: HostRuntime) -> Result<(), Fail> {
-    let lines: [&[&str]; 33] = [
+    let lines: [&[&str]; 35] = [
         &[],
         &["cells", "--mod", "2"],
         &["betti", "--mod", "6"],
-        &["betti", "--mod", "4"],
+        &["betti", "--mod", "8"],
+        &["betti", "--mod", "17"],
+        &["betti", "--mod", "1"],
         &["covers", "--sheets", "0"],
         &["covers"],
         &["frob"],

@@ -11,9 +11,13 @@ returns-in_err-numbers-clause-steps g c =
     all_steps c.args.space.now c.in_ok-chains.chains c.args.steps.now c.betti_modulo.new.steps c.in_ok-chains.ensures.within c.in_ok-chains.ensures.chains c.betti_modulo.ensures.steps
 
 pub returns-clause-numbers : goal.returns-clause-numbers
-returns-clause-numbers g c =
-    (few_passes c.args.space.now c.in_ok-chains.ensures.within, (c.numbers_of.ensures ∙ ap chain_numbers c.in_ok-chains.ensures.chains,
-    subst (λ s. AreBetti (field_of c.args.modulus) s c.in_ok-numbers.numbers) c.in_ok-chains.ensures.chains c.in_ok-numbers.ensures.betti))
+returns-clause-numbers g c = (
+  few_passes c.args.space.now c.in_ok-chains.ensures.within,
+  (
+    c.numbers_of.ensures ∙ ap chain_numbers c.in_ok-chains.ensures.chains,
+    subst (λ s. AreBetti (field_of c.args.modulus) s c.in_ok-numbers.numbers) c.in_ok-chains.ensures.chains c.in_ok-numbers.ensures.betti,
+  ),
+)
 
 pub returns-clause-steps : goal.returns-clause-steps
 returns-clause-steps g c =

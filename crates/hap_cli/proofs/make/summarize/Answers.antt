@@ -15,10 +15,15 @@ returns-in-Err-clause-steps g c =
     subst (λ s. c.chains_and_betti.new.steps ≤ c.args.steps.now + entries_of (only_few (Ok s))) c.requires.space c.chains_and_betti.ensures.steps
 
 pub returns-in-Ok-clause-summary : goal.returns-in-Ok-clause-summary
-returns-in-Ok-clause-summary g c =
-    (subst (λ s. only_few (Ok s) ≡ Ok s) c.requires.space c.in-Ok.ensures.numbers.0,
-    (refl, c.requires.space, c.in-Ok.ensures.numbers.1.0 ∙ ap chain_numbers c.requires.space,
-    subst (λ s. AreBetti (field_of c.args.modulus) s c.in-Ok.numbers) c.requires.space c.in-Ok.ensures.numbers.1.1))
+returns-in-Ok-clause-summary g c = (
+  subst (λ s. only_few (Ok s) ≡ Ok s) c.requires.space c.in-Ok.ensures.numbers.0,
+  (
+    refl,
+    c.requires.space,
+    c.in-Ok.ensures.numbers.1.0 ∙ ap chain_numbers c.requires.space,
+    subst (λ s. AreBetti (field_of c.args.modulus) s c.in-Ok.numbers) c.requires.space c.in-Ok.ensures.numbers.1.1,
+  ),
+)
 
 pub returns-in-Ok-clause-steps : goal.returns-in-Ok-clause-steps
 returns-in-Ok-clause-steps g c =
