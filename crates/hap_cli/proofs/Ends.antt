@@ -1,26 +1,25 @@
 -- How a run ends, from what a command gives on the bytes of its input and from what is written.
-use Rattle.std.proofs.Common.{◌≡◌, ℕ, ◌≤◌, ◌<◌, Bool, true, false, List, length, take, None, Some, Result, Ok, Err, refl, sym, ap, ◌∙◌, subst, inl, inr, arith}
+use Rattle.std.proofs.Common.{◌≡◌, ℕ, ◌≤◌, ◌<◌, true, false, List, length, None, Some, Result, Ok, Err, refl, sym, ap, ◌∙◌, subst, inl, inr, arith}
 use Rattle.std.specs.Prelude.{IfSome, IsNone, ◌⊎◌, if◌then◌else◌}
 use Rattle.std.specs.declared.option.Option.{Option}
-use Rattle.std.specs.Io.KnownBytes.{Appends, Keeps}
+use Rattle.std.specs.Io.KnownBytes.{Keeps}
 use Rattle.hap_outside.specs.Causes.{Rose, HasCause}
 use Rattle.hap_outside.specs.Stores.{Store, bytes_under}
 use Rattle.hap_outside.specs.Writes.{Writes}
 use Rattle.hap_words.specs.Asked.{Asked, spot_of}
 use Rattle.hap_ends.specs.declared.outcome.Outcome.{Outcome}
 use Rattle.hap_ends.specs.declared.outcome.Outcome.TheVariants.{Done, Spent, Usage, Refused, ReadFault, WriteFault, Memory}
-use Rattle.hap_ends.specs.declared.refusal.Refusal.{Refusal}
 use Rattle.hap_ends.specs.declared.refusal.Refusal.TheVariants.{TooLong}
 use Rattle.hap_ends.specs.Refusals.{refusal_status, bare}
 use Rattle.hap_ends.specs.Outcomes.{status_of, written_outcome}
 use Rattle.hap_ends.proofs.CallerLemmas.{refused_range, bare_status}
-use Rattle.hap_inputs.specs.Input.{input_name, limit_of, told_store, OnNamed, OnInput, IsRead, IsUnread}
+use Rattle.hap_inputs.specs.Input.{input_name, limit_of, told_store, OnNamed, IsRead, IsUnread}
 use Rattle.hap_inputs.proofs.CallerLemmas.{less, not_less}
 use Rattle.hap_cli.specs.declared.answer.Answer.{Answer}
 use Rattle.hap_cli.specs.Refusals.{refusal, cause}
-use Rattle.hap_cli.specs.Answers.{IsAnswer, text_of, Gives}
+use Rattle.hap_cli.specs.Answers.{text_of, Gives}
 use Rattle.hap_cli.specs.Counting.{Counts, CountsBy}
-use Rattle.hap_cli.specs.Ends.{ending, status_for, asks_cover, may_write, Answers, EndsOn, IsEnd, EndsBy}
+use Rattle.hap_cli.specs.Ends.{ending, status_for, asks_cover, may_write, EndsOn, IsEnd, EndsBy}
 
 -- ---- on the bytes of the input
 

@@ -1,7 +1,6 @@
-use Rattle.std.proofs.Common.{◌≡◌, Ok, ap, sym, ◌∙◌}
+use Rattle.std.proofs.Common.{Ok, ap, sym, ◌∙◌}
 use Rattle.small_field.specs.Modulus.{field_of}
 use Rattle.order_complex.specs.Numbers.{AreBetti}
-use Rattle.hap_inputs.specs.Spaces.{only_regular}
 use Rattle.hap_cli.proofs.Stages.{gives_past, steps_past}
 use Rattle.hap_cli.proofs.betti.regular_betti.Goals as goal
 
