@@ -7,8 +7,11 @@ use Rattle.certificates.specs.Plain.{Plain, plain_from, plain_of}
 use Rattle.certificates.specs.Placed.{Placed, Sheets, Cover, Spent, placed_words, placed_text, IsPlaced, placed_of}
 use Rattle.certificates.specs.Forms.{Form, plain, placed, line_text, stands, IsAnyForm, IsForm, any_form, if_stands, form_of}
 use Rattle.certificates.proofs.Somes.{both_some, tested}
+use Rattle.certificates.specs.Plain.{parts}
+use Rattle.certificates.proofs.Words.{Without}
+use Rattle.certificates.proofs.PartLemmas.{kind-feedless}
 use Rattle.certificates.proofs.PlainLemmas.{plain-is, plain-back}
-use Rattle.certificates.proofs.PlacedLemmas.{placed-is, placed-back, placed-words}
+use Rattle.certificates.proofs.PlacedLemmas.{line_feed, placed-is, placed-back, placed-words, plain-without, placed-without}
 
 any-is : (line : List ℕ) (f : Form) → any_form line ≡ Some f → IsAnyForm f × (line ≡ line_text f)
 any-is line f h = at (plain_of line) (placed_of line) refl refl h
@@ -44,3 +47,9 @@ pub form-back : (version : ℕ) (line : List ℕ) (f : Form) → IsForm version 
 form-back version line f w e =
     ap (option_and_then (if_stands version)) (any-back line f w.form e)
     ∙ ap (λ (t : Bool). cond t (Some f) None) w.there
+
+-- ---- no line has a line feed in it
+
+pub feedless : (version : ℕ) (f : Form) → IsForm version f → Without 10 (line_text f)
+feedless version (plain f) w = plain-without 10 line_feed refl refl (parts f) w.form.proper (kind-feedless (parts f).kind)
+feedless version (placed f) w = placed-without f w.form

@@ -60,6 +60,19 @@ spaceless (b ∷ bs) h = let p = parts (eqb b 32) (is_spaceless bs) h in All-con
     parts true u h = cc
     parts false u h = (refl, h)
 
+-- the same for line feeds
+abbrev is_feedless : List ℕ → Bool
+is_feedless [] = true
+is_feedless (b ∷ bs) = cond (eqb b 10) false (is_feedless bs)
+
+pub feedless_text : (w : List ℕ) → is_feedless w ≡ true → Without 10 w
+feedless_text [] h = All-nil (λ b. eqb b 10 ≡ false)
+feedless_text (b ∷ bs) h = let p = parts (eqb b 10) (is_feedless bs) h in All-cons (λ b. eqb b 10 ≡ false) b bs p.0 (feedless_text bs p.1)
+  where
+    parts : (t u : Bool) → cond t false u ≡ true → (t ≡ false) × (u ≡ true)
+    parts true u h = cc
+    parts false u h = (refl, h)
+
 kind-test : (k : Kind) → is_spaceless (kind_text k) ≡ true
 kind-test kind.Version = refl
 kind-test kind.Modulus = refl
@@ -80,6 +93,27 @@ kind-test kind.Columns = refl
 kind-test kind.Covers = refl
 kind-test kind.Done = refl
 kind-test kind.End = refl
+
+pub kind-feedless : (k : Kind) → Without 10 (kind_text k)
+kind-feedless kind.Version = feedless_text (kind_text kind.Version) refl
+kind-feedless kind.Modulus = feedless_text (kind_text kind.Modulus) refl
+kind-feedless kind.Cells = feedless_text (kind_text kind.Cells) refl
+kind-feedless kind.Face = feedless_text (kind_text kind.Face) refl
+kind-feedless kind.Chains = feedless_text (kind_text kind.Chains) refl
+kind-feedless kind.Rank = feedless_text (kind_text kind.Rank) refl
+kind-feedless kind.RankLine = feedless_text (kind_text kind.RankLine) refl
+kind-feedless kind.Classes = feedless_text (kind_text kind.Classes) refl
+kind-feedless kind.ClassLine = feedless_text (kind_text kind.ClassLine) refl
+kind-feedless kind.Products = feedless_text (kind_text kind.Products) refl
+kind-feedless kind.ProductLine = feedless_text (kind_text kind.ProductLine) refl
+kind-feedless kind.Pairs = feedless_text (kind_text kind.Pairs) refl
+kind-feedless kind.PairLine = feedless_text (kind_text kind.PairLine) refl
+kind-feedless kind.Critical = feedless_text (kind_text kind.Critical) refl
+kind-feedless kind.Components = feedless_text (kind_text kind.Components) refl
+kind-feedless kind.Columns = feedless_text (kind_text kind.Columns) refl
+kind-feedless kind.Covers = feedless_text (kind_text kind.Covers) refl
+kind-feedless kind.Done = feedless_text (kind_text kind.Done) refl
+kind-feedless kind.End = feedless_text (kind_text kind.End) refl
 
 -- ---- sparse lists
 

@@ -10,12 +10,16 @@ use Rattle.sheet_tables.specs.Positions.{position_text}
 use Rattle.sheet_tables.specs.Spots.{spot_text, spot_from}
 use Rattle.sheet_tables.proofs.CallerLemmas.{spot-is, spot-back}
 use Rattle.certificates.specs.Numbers.{number_of, HasTenDigits}
-use Rattle.certificates.specs.Tokens.{words_of}
+use Rattle.certificates.specs.declared.token.Token.{Token}
+use Rattle.certificates.specs.declared.token.Token.TheVariants.{Number, Entry, Dash, Bar}
+use Rattle.certificates.specs.Tokens as tokens
+use Rattle.certificates.specs.Tokens.{token_text, words_of}
+use Rattle.certificates.specs.Parts.{Parts, kind_text, rest_tokens, parts_words, parts_text}
 use Rattle.certificates.specs.Placed.{SearchSpot, SheetRows, spot_or_start_text, IsSpotOrStart, row_text, rows_text, table_text, are_even, AreRows, Placed, Sheets, Cover, Spent, placed_words, placed_text, IsPlaced, spot_or_start_of, entries_from, row_of, rows_from, even_rows, table_of, sheets_of, cover_of, placed_from, placed_of}
 use Rattle.certificates.proofs.Somes.{both_some, tested}
 use Rattle.certificates.proofs.NumberLemmas.{number-is, number-back, decimal-without}
 use Rattle.certificates.proofs.Words.{Without, split-joined, bytes-same}
-use Rattle.certificates.proofs.PartLemmas.{spaceless}
+use Rattle.certificates.proofs.PartLemmas.{spaceless, feedless_text}
 
 not_true : (t : Bool) → (t ≡ true → ⊥) → t ≡ false
 not_true true h = absurd (h refl)
@@ -28,10 +32,10 @@ no_dash w h = not_true (bytes_eq w (45 ∷ [])) (λ e. false≢true (sym (All-he
 -- ---- bytes that are no digit and no separator
 
 -- a byte that stands in no spot and in no table
-record IsApart (c : ℕ) : Type 0 where
-  low : c < 48
-  comma : eqb 44 c ≡ false
-  slash : eqb 47 c ≡ false
+pub record IsApart (c : ℕ) : Type 0 where
+  pub low : c < 48
+  pub comma : eqb 44 c ≡ false
+  pub slash : eqb 47 c ≡ false
 
 space_apart : IsApart 32
 space_apart = record { low = omega arith; comma = refl; slash = refl }
@@ -76,6 +80,9 @@ spot-without c a k sheets cells few = at (eqb k 1)
     at false =
         All-append (λ b. eqb b c ≡ false) (decimal k) (47 ∷ position_text sheets cells) (decimal-without c k a.low (omega (arith, few)))
         (All-cons (λ b. eqb b c ≡ false) 47 (position_text sheets cells) a.slash (position-without c a sheets cells))
+
+pub line_feed : IsApart 10
+line_feed = record { low = omega arith; comma = refl; slash = refl }
 
 -- ---- spots
 
@@ -251,3 +258,44 @@ from-back (Sheets n x) h =
 
 pub placed-back : (line : List ℕ) (f : Placed) → IsPlaced f → line ≡ placed_text f → placed_of line ≡ Some f
 placed-back line f w e = ap placed_of e ∙ (ap placed_from (placed-words f w) ∙ from-back f w)
+
+-- ---- bytes that stand in no line
+
+token-without : (c : ℕ) → IsApart c → eqb 45 c ≡ false → (t : Token) → tokens.IsProper t → Without c (token_text t)
+token-without c a dash (Number n) p = decimal-without c n a.low p
+token-without c a dash (Entry x y) p =
+    All-append (λ b. eqb b c ≡ false) (decimal x) (58 ∷ decimal y) (decimal-without c x a.low p.0)
+    (All-cons (λ b. eqb b c ≡ false) 58 (decimal y) (ne_eqb 58 c (λ e. omega (arith, a.low))) (decimal-without c y a.low p.1))
+token-without c a dash Dash p = All-cons (λ b. eqb b c ≡ false) 45 [] dash (All-nil (λ b. eqb b c ≡ false))
+token-without c a dash Bar p = All-cons (λ b. eqb b c ≡ false) 124 [] (ne_eqb 124 c (λ e. omega (arith, a.low))) (All-nil (λ b. eqb b c ≡ false))
+
+pub plain-without : (c : ℕ) → IsApart c → eqb 45 c ≡ false → eqb 32 c ≡ false → (p : Parts) → All tokens.IsProper (rest_tokens p.rest) → Without c (kind_text p.kind) → Without c (parts_text p)
+plain-without c a dash space p h kind =
+    joined-without c 32 space (parts_words p)
+    (All-cons (Without c) (kind_text p.kind) (map token_text (rest_tokens p.rest)) kind
+    (All-map (Without c) token_text (rest_tokens p.rest) (All-weaker tokens.IsProper (λ t. Without c (token_text t)) (token-without c a dash) (rest_tokens p.rest) h)))
+
+spot_or_start-without : (c : ℕ) → IsApart c → eqb 45 c ≡ false → (x : SearchSpot) → IsSpotOrStart x → Without c (spot_or_start_text x)
+spot_or_start-without c a dash None h = All-cons (λ b. eqb b c ≡ false) 45 [] dash (All-nil (λ b. eqb b c ≡ false))
+spot_or_start-without c a dash (Some s) h = spot-without c a s.0 s.1 s.2 h.1
+
+table-without : (c : ℕ) → IsApart c → eqb 45 c ≡ false → (rows : SheetRows) → AreRows rows → Without c (table_text rows)
+table-without c a dash [] h = All-cons (λ b. eqb b c ≡ false) 45 [] dash (All-nil (λ b. eqb b c ≡ false))
+table-without c a dash (row ∷ rows) h = rows-without c a (row ∷ rows) h.entries
+
+pub placed-without : (f : Placed) → IsPlaced f → Without 10 (placed_text f)
+placed-without (Spent x) h =
+    joined-without 10 32 refl (placed_words (Spent x))
+    (All-cons (Without 10) (codes "spent") (spot_or_start_text x ∷ []) (feedless_text (codes "spent") refl)
+    (All-cons (Without 10) (spot_or_start_text x) [] (spot_or_start-without 10 line_feed refl x h) (All-nil (Without 10))))
+placed-without (Cover m rows) h =
+    joined-without 10 32 refl (placed_words (Cover m rows))
+    (All-cons (Without 10) (codes "cover") (decimal m ∷ table_text rows ∷ []) (feedless_text (codes "cover") refl)
+    (All-cons (Without 10) (decimal m) (table_text rows ∷ []) (decimal-without 10 m (omega arith) h.0)
+    (All-cons (Without 10) (table_text rows) [] (table-without 10 line_feed refl rows h.1) (All-nil (Without 10)))))
+placed-without (Sheets n x) h =
+    joined-without 10 32 refl (placed_words (Sheets n x))
+    (All-cons (Without 10) (codes "sheets") (decimal n ∷ codes "from" ∷ spot_or_start_text x ∷ []) (feedless_text (codes "sheets") refl)
+    (All-cons (Without 10) (decimal n) (codes "from" ∷ spot_or_start_text x ∷ []) (decimal-without 10 n (omega arith) h.0)
+    (All-cons (Without 10) (codes "from") (spot_or_start_text x ∷ []) (feedless_text (codes "from") refl)
+    (All-cons (Without 10) (spot_or_start_text x) [] (spot_or_start-without 10 line_feed refl x h.1) (All-nil (Without 10))))))

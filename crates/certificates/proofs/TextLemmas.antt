@@ -14,7 +14,7 @@ use Rattle.certificates.specs.Placed.{Sheets}
 use Rattle.certificates.specs.Forms.{Form, plain, placed}
 use Rattle.certificates.specs.Degrees.{at}
 use Rattle.certificates.specs.Cert.{Cert, CertCover}
-use Rattle.certificates.specs.Texts.{Stated, four, line_bytes, lines_text, face_lines, rank_lines, class_lines, rank_line, class_line, product_line, opening_lines, space_lines, homology_lines, pair_line, column_lines, component_lines, cover_front, cover_fronts, front_text}
+use Rattle.certificates.specs.Texts.{Stated, four, sheets_number, line_bytes, lines_text, face_lines, rank_lines, class_lines, rank_line, class_line, product_line, opening_lines, space_lines, homology_lines, pair_line, column_lines, component_lines, cover_front, cover_fronts, front_text}
 use Rattle.certificates.specs.Written.{numbered_line, four_line, faces_text, block_text, products_text, opening_text, space_text, homology_text, pair_text, columns_text, components_text, cover_front_text, cover_fronts_text}
 
 lines-append : (xs ys : List Stated) → lines_text (xs ++ ys) ≡ lines_text xs ++ lines_text ys
@@ -105,11 +105,11 @@ components-some version columns ne = sym (ap (λ (t : Bool). cond t [] (numbered
 cover-is : (version : ℕ) (c : CertCover) → cover_front_text version c ≡ lines_text (cover_front version c)
 cover-is version c =
     let sheets : Form = placed (Sheets c.sheets c.from) in
-    let later : List Stated = component_lines version c.columns ++ (None, sheets) ∷ [] in
+    let later : List Stated = component_lines version c.columns ++ (sheets_number version c.sections, sheets) ∷ [] in
     append_assoc (numbered_line kind.Pairs (length c.pairs ∷ [])) (flat_map pair_text c.pairs) (four_line kind.Critical c.critical ++ (components_text version c.columns ++ line_bytes sheets))
     ∙ ap (λ (ys : List ℕ). numbered_line kind.Pairs (length c.pairs ∷ []) ++ ys)
     (joins (map pair_line c.pairs) ((Some c.critical_line, four p.Critical c.critical) ∷ later) _ _ (sym (lines-map pair_line c.pairs))
-    (ap (λ (ys : List ℕ). four_line kind.Critical c.critical ++ ys) (joins (component_lines version c.columns) ((None, sheets) ∷ []) _ _ (components-is version c.columns) (sym (one None sheets)))))
+    (ap (λ (ys : List ℕ). four_line kind.Critical c.critical ++ ys) (joins (component_lines version c.columns) ((sheets_number version c.sections, sheets) ∷ []) _ _ (components-is version c.columns) (sym (one (sheets_number version c.sections) sheets)))))
 
 pub covers-is : (version : ℕ) (c : Option CertCover) → cover_fronts_text version c ≡ lines_text (cover_fronts version c)
 covers-is version None = refl

@@ -9,7 +9,7 @@
 --   section_text component, cover_text sheets columns cells   the line that begins a section, the line of a cover
 --   front_text, sections_text, back_text   its three parts
 -- and as steps of these
---   face_lines, rank_lines, class_lines, product_line, pair_line, column_lines, cover_line, section_lines, cover_front, ending_line
+--   face_lines, rank_lines, class_lines, product_line, pair_line, column_lines, sheets_number, cover_line, section_lines, cover_front, ending_line
 use Rattle.std.specs.Prelude.{ℕ, ◌+◌, ◌==◌, List, [], ◌∷◌, ◌++◌, map, length, if◌then◌else◌, Option, Some, None, slice_index_or}
 use Rattle.std.specs.List.{flat_map}
 use Rattle.face_poset.specs.Poset.{Layers, layer, count}
@@ -81,10 +81,18 @@ abbrev pub component_lines : (version : ℕ) → List ℕ → List Stated
 component_lines version columns =
     if version == 1 then [] else (None, plain (p.Components (length columns))) ∷ column_lines 1 columns
 
+-- in version 1 the one section has the number of the line `sheets`
+abbrev pub first_number : List CoverSection → ℕ
+first_number [] = 0
+first_number (s ∷ sections) = s.number
+
+abbrev pub sheets_number : (version : ℕ) → List CoverSection → Option ℕ
+sheets_number version sections = if version == 1 then Some (first_number sections) else None
+
 abbrev pub cover_front : (version : ℕ) → CertCover → List Stated
 cover_front version c =
     (None, plain (p.Pairs (length c.pairs))) ∷ (map pair_line c.pairs ++ (Some c.critical_line, four p.Critical c.critical)
-    ∷ (component_lines version c.columns ++ (None, placed (Sheets c.sheets c.from)) ∷ []))
+    ∷ (component_lines version c.columns ++ (sheets_number version c.sections, placed (Sheets c.sheets c.from)) ∷ []))
 
 abbrev pub cover_line : CoverTable → Stated
 cover_line t = (Some t.number, placed (Cover t.sheets (rows_of t.sheets t.columns t.cells)))

@@ -1,5 +1,5 @@
--- Which certificates are well formed: each number, position and value is in its range, and each line that the certificate
--- gives a number has that number in its text. m is the modulus, C the numbers of columns of the components.
+-- Which certificates are well formed: each number, position and value is in its range, each line has a form of the version,
+-- and each line that the certificate gives a number has that number in its text. m is the modulus, C the numbers of columns of the components.
 --   are_entries m count entries      positions that rise from 1 to the count, values from 1 to m - 1
 --   rank_fits c k, class_fits c k    the lines of a degree are at most as many as its chains, and their entries fit
 --   product_order b1 b2              the places of the product lines in their order: of degrees (1,1), (1,2), (2,1)
@@ -8,12 +8,12 @@
 --   critical_fits space c k          the critical cells of a dimension are those in no pair
 --   spot_fits C n spot               the start, or a component with its columns, at most n sheets, cells from 1 to the sheets, at most sheets times columns
 --   table_fits columns n table       a table of at most n sheets with so many columns
---   sections_follow c                a section for each component, from that of the start to the last, or to where the search was spent
+--   SectionsFollow c sections        sections from the component of the start, one after another, to the last or to where the search was spent
 --   are_numbered n lines             lines from line n on have the numbers that are given
 --   IsCoverPart version space c      the cover part is in its ranges
 --   IsWellFormed c                   all of it
 use Rattle.std.specs.Prelude.{◌≡◌, ◌⊎◌, ℕ, ◌+◌, ◌-◌, ◌*◌, ◌≤◌, ◌==◌, nat_le, List, [], ◌∷◌, ◌++◌, map, length, sum, Bool, true, ◌&&◌, ◌||◌, Option, Some, None, slice_index_or, if◌then◌else◌}
-use Rattle.std.specs.List.{list_all, flat_map, range_with_len}
+use Rattle.std.specs.List.{AllByRecursion, list_all, flat_map}
 use Rattle.small_field.specs.Modulus.{is_modulus}
 use Rattle.face_poset.specs.Words.{upto}
 use Rattle.face_poset.specs.Poset.{Layers, count, IsSpace, IsLimited}
@@ -24,8 +24,9 @@ use Rattle.certificates.specs.declared.lines.ProductLine.{ProductLine}
 use Rattle.certificates.specs.declared.lines.PairLine.{PairLine}
 use Rattle.certificates.specs.Placed.{SearchSpot}
 use Rattle.certificates.specs.Degrees.{at}
+use Rattle.certificates.specs.Forms.{IsForm}
 use Rattle.certificates.specs.Cert.{CoverTable, CoverSection, CertCover, Cert}
-use Rattle.certificates.specs.Texts.{Stated, front_lines, lines_of}
+use Rattle.certificates.specs.Texts.{Stated, lines_of}
 
 -- ---- sparse lists
 
@@ -111,22 +112,27 @@ abbrev pub component_of : SearchSpot → ℕ
 component_of None = 1
 component_of (Some s) = s.0
 
+-- the component of the last section: that of the spot where the search was spent, or the last one where it was done
 abbrev pub last_component : CertCover → Option SearchSpot → ℕ
 last_component c None = length c.columns
 last_component c (Some spot) = component_of spot
 
-pub record SectionsFollow (c : CertCover) : Type 0 where
-  pub some : 1 ≤ length c.sections
-  pub order : map (λ s. s.component) c.sections ≡ range_with_len (component_of c.from) (length c.sections)
-  pub last : component_of c.from + length c.sections ≡ last_component c c.spent + 1
+-- the sections behind one of a component: each is of the next component, and there is one
+abbrev pub NextSections : CertCover → (component : ℕ) → List CoverSection → Type 0
+NextSections c component [] = component ≡ last_component c c.spent
+NextSections c component (s ∷ sections) =
+    (s.component ≡ component + 1) × (s.component ≤ length c.columns) × NextSections c s.component sections
 
--- the columns: in version 1 those of one component, and in version 2 a number for each critical vertex, whose sum is the
--- number of critical edges
+abbrev pub SectionsFollow : CertCover → List CoverSection → Type 0
+SectionsFollow c [] = ⊥
+SectionsFollow c (s ∷ sections) = (s.component ≡ component_of c.from) × NextSections c s.component sections
+
+-- the columns: in version 1 those of the one component, and in version 2 a number for each critical vertex, whose sum is
+-- the number of critical edges
 pub record ColumnsFit (version : ℕ) (c : CertCover) : Type 0 where
-  pub whole : sum c.columns ≡ slice_index_or c.critical 1 0
-  pub some : 1 ≤ length c.columns
-  pub one : version ≡ 1 → length c.columns ≡ 1
-  pub components : version ≡ 2 → length c.columns ≡ slice_index_or c.critical 0 0
+  pub one : version ≡ 1 → c.columns ≡ slice_index_or c.critical 1 0 ∷ []
+  pub components : version ≡ 2 → (length c.columns ≡ slice_index_or c.critical 0 0) × (1 ≤ length c.columns)
+  pub whole : version ≡ 2 → sum c.columns ≡ slice_index_or c.critical 1 0
 
 pub record IsCoverPart (version : ℕ) (space : Layers) (c : CertCover) : Type 0 where
   pub pairs : list_all (pair_fits space) c.pairs ≡ true
@@ -135,7 +141,8 @@ pub record IsCoverPart (version : ℕ) (space : Layers) (c : CertCover) : Type 0
   pub columns : ColumnsFit version c
   pub sheets : is_between 1 8 c.sheets ≡ true
   pub from : spot_fits c.columns c.sheets c.from ≡ true
-  pub sections : SectionsFollow c
+  pub sections : SectionsFollow c c.sections
+  pub one_section : version ≡ 1 → length c.sections ≡ 1
   pub tables : list_all (section_fits c) c.sections ≡ true
   pub spent : spent_fits c.columns c.sheets c.spent ≡ true
 
@@ -145,10 +152,6 @@ abbrev pub are_numbered : ℕ → List Stated → Bool
 are_numbered n [] = true
 are_numbered n ((None, f) ∷ lines) = are_numbered (n + 1) lines
 are_numbered n ((Some number, f) ∷ lines) = (number == n) && are_numbered (n + 1) lines
-
--- in version 1 the one section has the number of the line `sheets`, the last of the front
-abbrev pub IsSectionNumbered : Cert → Type 0
-IsSectionNumbered c = (cover : CertCover) → c.cover ≡ Some cover → c.version ≡ 1 → map (λ s. s.number) cover.sections ≡ length (front_lines c) ∷ []
 
 pub record IsWellFormed (c : Cert) : Type 0 where
   pub version : (c.version ≡ 1) ⊎ (c.version ≡ 2)
@@ -166,4 +169,4 @@ pub record IsWellFormed (c : Cert) : Type 0 where
   pub products : list_all (product_fits c) c.products ≡ true
   pub cover : (part : CertCover) → c.cover ≡ Some part → IsCoverPart c.version c.space part
   pub numbers : are_numbered 1 (lines_of c) ≡ true
-  pub section : IsSectionNumbered c
+  pub forms : AllByRecursion (λ l. IsForm c.version l.1) (lines_of c)

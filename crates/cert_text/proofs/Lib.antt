@@ -1,0 +1,14 @@
+mod CertReaders
+mod CoverReaders
+mod Equivalents
+mod Examples
+mod HomologyReaders
+mod ListingReaders
+mod Passing
+mod Picked
+mod SpaceReaders
+mod TableRows
+mod Tests
+mod WellCovers
+mod WellSpaces
+mod Whole

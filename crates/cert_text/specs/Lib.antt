@@ -1,0 +1,10 @@
+-- What contracts mean: Reading (the certificate of a text, or its first fault), Laws. Steps of it: Readers, Picks.
+-- Words of lower crates that these speak of stand at the end.
+pub mod Readers
+pub mod Picks
+pub mod Reading
+pub mod Laws
+pub use Rattle.certificates.specs.Forms
+pub use Rattle.certificates.specs.Cert
+pub use Rattle.certificates.specs.Texts
+pub use Rattle.certificates.specs.WellFormed

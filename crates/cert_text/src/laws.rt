@@ -1,0 +1,16 @@
+ghost use Rattle.cert_text.specs.Laws.{TextsAreRead, OnlyTextsAreRead, TextsAreOne};
+
+/// A law, and nothing at run time: the text of a well-formed certificate reads as that certificate.
+pub fn texts_are_read()
+    ensures { TextsAreRead }
+{}
+
+/// A law, and nothing at run time: what reads as a certificate is the text of it, and it is well formed.
+pub fn only_texts_are_read()
+    ensures { OnlyTextsAreRead }
+{}
+
+/// A law, and nothing at run time: well-formed certificates with equal texts are equal.
+pub fn texts_are_one()
+    ensures { TextsAreOne }
+{}

@@ -1,0 +1,16 @@
+//! The text of a certificate, read: exact to its first fault, in versions 1 and 2.
+//!
+//! What a text is read as is a definition, `certificate_of`, and laws say that the text of a well-formed
+//! certificate is read as that certificate, and nothing else is.
+#![tactic(auto)]
+
+mod fault;
+mod laws;
+
+pub use certificates::{
+    Certificate, CoverLine, CoverLines, CoverPart, Ending, Line, LinesByDegree, Numbers, PairLine,
+    PairLines, ProductLine, ProductLines, Section, Sections, forms_are_spelled, write_back,
+    write_cover, write_front, write_section,
+};
+pub use fault::CertFault;
+pub use laws::{only_texts_are_read, texts_are_one, texts_are_read};
