@@ -1,8 +1,10 @@
-ghost use Rattle.std.specs.Prelude.{◌≡◌, ◌≢◌, ◌∷◌, ◌≤◌, ◌<◌, ◌+◌, ◌^◌, ℕ, [], length, slice_index, count_by, true, IfOk, IfErr, OnOk, Ok, Err};
+ghost use Rattle.std.specs.Prelude.{◌≡◌, ◌≢◌, ◌∷◌, ◌≤◌, ◌<◌, ◌+◌, ◌^◌, ℕ, [], length, slice_index, count_by};
+ghost use Rattle.std.specs.Prelude.{true, IfOk, IfErr, OnOk, Ok, Err};
 ghost use Rattle.std.specs.List.{list_all, range_with_len};
 ghost use Rattle.gap_text.specs.Nest.{view};
 ghost use Rattle.array_values.specs.Answers.{gather_from};
-ghost use Rattle.array_values.specs.Arcs.{number_of, pair_in, is_row, row_of, has_column, is_twice, counted, arcs_of, IsPresentation};
+ghost use Rattle.array_values.specs.Arcs.{number_of, pair_in, is_row, row_of, has_column, is_twice, counted};
+ghost use Rattle.array_values.specs.Arcs.{arcs_of, IsPresentation};
 
 use crate::fault::ArrayFault;
 use gap_text::{Items, Nest};

@@ -5,7 +5,8 @@ ghost use Rattle.std.specs.List.{flat_map};
 ghost use Rattle.hap_outside.specs.Causes.{HasCause};
 ghost use Rattle.hap_outside.specs.Gathers.{Gathers};
 ghost use Rattle.certificates.specs.Cert.{cover_of};
-ghost use Rattle.certificates.specs.Written.{numbered_line, pair_text, pairs_text, columns_text, components_text, cover_front_text, cover_fronts_text};
+ghost use Rattle.certificates.specs.Written.{numbered_line, pair_text, pairs_text, columns_text};
+ghost use Rattle.certificates.specs.Written.{components_text, cover_front_text, cover_fronts_text};
 
 use crate::certificate::{CoverPart, Numbers};
 use crate::front::put_four;

@@ -5,7 +5,9 @@ ghost use Rattle.hap_outside.specs.Causes.{HasCause};
 ghost use Rattle.hap_outside.specs.Gathers.{Gathers};
 ghost use Rattle.certificates.specs.declared.kind.Kind.TheVariants as kind;
 ghost use Rattle.certificates.specs.Degrees.{at};
-ghost use Rattle.certificates.specs.Written.{numbered_line, cells_line, four_line, face_text, faces_text, side_line, block_text, blocks_text, product_text, products_text, opening_text, space_text, homology_text};
+ghost use Rattle.certificates.specs.Written.{numbered_line, cells_line, four_line, face_text, faces_text};
+ghost use Rattle.certificates.specs.Written.{side_line, block_text, blocks_text, product_text, products_text};
+ghost use Rattle.certificates.specs.Written.{opening_text, space_text, homology_text};
 
 use crate::certificate::Certificate;
 use crate::kind::Kind;

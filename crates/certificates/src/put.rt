@@ -4,7 +4,8 @@ ghost use Rattle.hap_outside.specs.Causes.{HasCause};
 ghost use Rattle.hap_outside.specs.Gathers.{Gathers};
 ghost use Rattle.certificates.specs.Tokens.{token_text};
 ghost use Rattle.certificates.specs.Parts.{kind_text, entry, sparse_tokens};
-ghost use Rattle.certificates.specs.Written.{numbers_text, words_text, head_text, sides_text, numbered_line, listed_line};
+ghost use Rattle.certificates.specs.Written.{numbers_text, words_text, head_text, sides_text, numbered_line};
+ghost use Rattle.certificates.specs.Written.{listed_line};
 
 use crate::kind::Kind;
 use crate::token::Token;

@@ -1,11 +1,12 @@
 //! The lines of a certificate of homology of an order complex: definitions and laws, no code.
 //!
-//! A rank line has a left side, whose coboundary is not zero on the right side of its own line and zero on those of the
-//! lines before; a class line a cocycle and a cycle, which pair; a product line an entry of the cup table with a bounding
-//! cochain. Each law is the contract of a function with an empty body.
+//! A rank line has a left side, whose coboundary is not zero on the right side of its own line and zero on those of
+//! the lines before; a class line a cocycle and a cycle, which pair; a product line an entry of the cup table with a
+//! bounding cochain. Each law is the contract of a function with an empty body.
 #![tactic(auto)]
 
-ghost use Rattle.chain_laws.specs.Laws.{EntriesAreCochains, ClassLinesAreCocycles, ProductLinesAreProducts, TestsAreEquations};
+ghost use Rattle.chain_laws.specs.Laws.{EntriesAreCochains, ClassLinesAreCocycles, ProductLinesAreProducts};
+ghost use Rattle.chain_laws.specs.Laws.{TestsAreEquations};
 
 use small_field::Field;
 

@@ -50,8 +50,12 @@ fn visit_level<G: Graded>(
     requires head { head ≤ length found.old.found }
     ensures most { found.new.most ≡ found.old.most }
     ensures len { length numbers.new ≡ length numbers.old }
-    ensures found { OnOk result (AreVisited (G.space graded.now) (left_of flags.now) (drop head found.old.found) found.old.found found.new.found) }
-    ensures numbers { OnOk result ((v : ℕ) → 1 ≤ v → at numbers.new v ≡ cond (holds (drop head found.old.found) v) round (at numbers.old v)) }
+    ensures found { OnOk result
+        (AreVisited (G.space graded.now) (left_of flags.now) (drop head found.old.found) found.old.found
+        found.new.found) }
+    ensures numbers { OnOk result
+        ((v : ℕ) → 1 ≤ v
+        → at numbers.new v ≡ cond (holds (drop head found.old.found) v) round (at numbers.old v)) }
 {
     for index in head..found.len() {
         let vertex = found.get(index);
@@ -73,7 +77,8 @@ fn visit<G: Graded>(
     requires first { 1 ≤ vertex }
     requires last { vertex ≤ count (G.space graded.now) 0 }
     ensures most { found.new.most ≡ found.old.most }
-    ensures found { OnOk result (IsVisited (G.space graded.now) (left_of flags.now) vertex found.old.found found.new.found) }
+    ensures found { OnOk result
+        (IsVisited (G.space graded.now) (left_of flags.now) vertex found.old.found found.new.found) }
 {
     let edges = graded.cofaces(0, vertex);
     for edge in edges {

@@ -19,7 +19,8 @@ pub(crate) fn list_pairs<G: Graded>(
 ) -> Result<Vec<Pair>, AllocError>
     requires dim { dim < 3 }
     requires uppers { AreUppers (G.space graded.now) dim uppers.now }
-    ensures { IfOk result (λ made. made.items ≡ in_turn (G.space graded.now) dim (links_at uppers.now (positive_at uppers.now))) }
+    ensures { IfOk result (λ made.
+        made.items ≡ in_turn (G.space graded.now) dim (links_at uppers.now (positive_at uppers.now))) }
 {
     let lowers = lowers_of(alloc, graded, dim, uppers)?;
     let mut waits = first_waits(alloc, graded, dim, uppers)?;
@@ -97,7 +98,8 @@ fn pass(waits: &mut Counts, cells: &[u32], lowers: &[u32]) -> Result<(), AllocEr
     requires cells { All (λ u. (1 ≤ u) × (u ≤ length lowers.now)) cells.now }
     requires lowers { (u : ℕ) → 1 ≤ u → at lowers.now u ≤ length waits.old }
     ensures len { length waits.new ≡ length waits.old }
-    ensures counts { OnOk result ((cell : ℕ) → 1 ≤ cell → at waits.new cell ≡ at waits.old cell - leaving lowers.now cells.now cell) }
+    ensures counts { OnOk result
+        ((cell : ℕ) → 1 ≤ cell → at waits.new cell ≡ at waits.old cell - leaving lowers.now cells.now cell) }
 {
     for cell in cells {
         let lower = lowers[*cell as usize - 1];

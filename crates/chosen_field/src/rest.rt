@@ -1,4 +1,5 @@
-ghost use Rattle.std.specs.Prelude.{◌≡◌, ◌-◌, ◌+◌, ◌≤◌, ◌<◌, ℕ, All, cond, false, filter, length, slice_index, slice_set, IfOk, OnOk};
+ghost use Rattle.std.specs.Prelude.{◌≡◌, ◌-◌, ◌+◌, ◌≤◌, ◌<◌, ℕ, All, cond, false, filter, length};
+ghost use Rattle.std.specs.Prelude.{slice_index, slice_set, IfOk, OnOk};
 ghost use Rattle.std.specs.List.{find};
 ghost use Rattle.std.specs.List.Sorted.{IsStrictlyIncreasing};
 ghost use Rattle.number_lists.specs.Words.{upto, holds};
@@ -45,7 +46,8 @@ impl Rest {
         ensures cells { IfOk result (λ rest. length rest.cells ≡ count (G.space graded.now) (dim + 1)) }
         ensures left { IfOk result (λ rest. left_of rest.cells ≡ cells.now) }
         ensures shared { IfOk result (λ rest. length rest.shared ≡ count (G.space graded.now) dim) }
-        ensures counts { IfOk result (λ rest. AreCounts (G.space graded.now) dim (count (G.space graded.now) dim) rest.cells rest.shared) }
+        ensures counts { IfOk result (λ rest.
+            AreCounts (G.space graded.now) dim (count (G.space graded.now) dim) rest.cells rest.shared) }
     {
         let flags = flags_of(alloc, graded.cells(dim + 1), cells)?;
         let mut shared = Counts::new(alloc, graded.cells(dim) as usize)?;
@@ -104,7 +106,10 @@ impl Rest {
         requires facets { All (λ f. (1 ≤ f) × (f ≤ length self.old.shared)) facets.now }
         ensures cells { self.new.cells ≡ slice_set self.old.cells (cell - 1) false }
         ensures len { length self.new.shared ≡ length self.old.shared }
-        ensures shared { OnOk result ((f : ℕ) → 1 ≤ f → slice_index self.new.shared (f - 1) ≡ slice_index self.old.shared (f - 1) - cond (holds facets.now f) 1 0) }
+        ensures shared { OnOk result
+            ((f : ℕ) → 1 ≤ f
+            → slice_index self.new.shared (f - 1)
+            ≡ slice_index self.old.shared (f - 1) - cond (holds facets.now f) 1 0) }
     {
         self.cells[cell as usize - 1] = false;
         for facet in facets {
@@ -119,7 +124,9 @@ impl Rest {
         requires last { facet ≤ length self.old.shared }
         ensures cells { self.new.cells ≡ self.old.cells }
         ensures len { length self.new.shared ≡ length self.old.shared }
-        ensures shared { OnOk result (self.new.shared ≡ slice_set self.old.shared (facet - 1) (slice_index self.old.shared (facet - 1) - 1)) }
+        ensures shared { OnOk result
+            (self.new.shared
+            ≡ slice_set self.old.shared (facet - 1) (slice_index self.old.shared (facet - 1) - 1)) }
     {
         self.shared.leave(facet)
     }

@@ -20,7 +20,10 @@ pub(crate) fn tree_edges<G: Graded>(
 ) -> Result<Vec<u32>, AllocError>
     requires flags { length flags.now ≡ count (G.space graded.now) 1 }
     requires numbers { length numbers.now ≡ count (G.space graded.now) 0 }
-    ensures { IfOk result (λ edges. edges.items ≡ map (λ v. unwrap_or (tree_edge (G.space graded.now) (left_of flags.now) numbers.now v) 0) (vertices (G.space graded.now))) }
+    ensures { IfOk result (λ edges.
+        edges.items
+        ≡ map (λ v. unwrap_or (tree_edge (G.space graded.now) (left_of flags.now) numbers.now v) 0)
+        (vertices (G.space graded.now))) }
 {
     let mut edges = Vec::new(alloc);
     for index in 0..graded.cells(0) {

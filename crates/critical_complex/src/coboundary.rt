@@ -1,5 +1,6 @@
 // The coboundaries of extensions from critical cells.
-ghost use Rattle.std.specs.Prelude.{◌≡◌, ◌≢◌, ◌<◌, ◌≤◌, ℕ, List, true, false, length, replicate, slice_set, slice_index, IfOk, OnOk};
+ghost use Rattle.std.specs.Prelude.{◌≡◌, ◌≢◌, ◌<◌, ◌≤◌, ℕ, List, true, false, length, replicate, slice_set};
+ghost use Rattle.std.specs.Prelude.{slice_index, IfOk, OnOk};
 ghost use Rattle.std.specs.List.{AllByRecursion};
 ghost use Rattle.linear_laws.specs.Vectors.{column, combination, dot};
 ghost use Rattle.linear_laws.specs.Echelon.{is_nonzero};
@@ -9,7 +10,8 @@ ghost use Rattle.split_laws.specs.Pairs.{kind_at};
 ghost use Rattle.critical_complex.specs.Stages.{place_of, IsPaired};
 ghost use Rattle.critical_complex.specs.Filled.{IsFilledBy};
 ghost use Rattle.critical_complex.specs.Blanks.{IsFilledTo, IsRowOf, IsZeroOff};
-ghost use Rattle.critical_complex.specs.Reaches.{cleared, AreDegrees, AreIndexes, HasColumns, IsFound, IsReach, IsSettled};
+ghost use Rattle.critical_complex.specs.Reaches.{cleared, AreDegrees, AreIndexes, HasColumns, IsFound};
+ghost use Rattle.critical_complex.specs.Reaches.{IsReach, IsSettled};
 
 use crate::filled::Filled;
 use crate::reach::Reach;
@@ -82,7 +84,8 @@ fn put_extension<F: Field>(
     requires paired { IsPaired F.ops stage.now next.now }
     requires indexes { AreIndexes stage.now.pairs next.now.kinds reach.now.indexes.items }
     requires most { reach.now.found.most ≡ length next.now.kinds }
-    requires reach { IsReach stage.now next.now (place_of stage.now.kinds row) reach.now.found.found reach.now.chosen.items }
+    requires reach { IsReach stage.now next.now (place_of stage.now.kinds row) reach.now.found.found
+        reach.now.chosen.items }
     requires zeros { zeros.now ≡ replicate (length next.now.kinds) 0 }
     requires blank { x.old ≡ replicate (length stage.now.kinds) 0 }
     requires row { row < criticals stage.now.kinds }
@@ -109,7 +112,8 @@ fn settle_mark<F: Field>(
     row: u32,
 )
     requires paired { IsPaired F.ops stage.now next.now }
-    requires reach { IsReach stage.now next.now (place_of stage.now.kinds row) reach.now.found.found reach.now.chosen.items }
+    requires reach { IsReach stage.now next.now (place_of stage.now.kinds row) reach.now.found.found
+        reach.now.chosen.items }
     requires zeros { zeros.now ≡ replicate (length next.now.kinds) 0 }
     requires blank { x.old ≡ replicate (length stage.now.kinds) 0 }
     requires row { row < criticals stage.now.kinds }
@@ -189,10 +193,15 @@ fn put_value<F: Field>(
     requires place { place < length next.now.kinds }
     requires cochain { length x.now ≡ length stage.now.kinds }
     requires values { length values.old ≡ criticals next.now.kinds }
-    ensures critical { kind_at next.now.kinds place ≡ Critical → values.new ≡ slice_set values.old (slice_index indexes.now place) (dot F.ops x.now (column place stage.now.rows)) }
+    ensures critical { kind_at next.now.kinds place ≡ Critical
+        → values.new
+        ≡ slice_set values.old (slice_index indexes.now place)
+        (dot F.ops x.now (column place stage.now.rows)) }
     ensures other { (kind_at next.now.kinds place ≡ Critical → ⊥) → values.new ≡ values.old }
-    ensures some { result ≡ true → (kind_at next.now.kinds place ≡ Critical) × (dot F.ops x.now (column place stage.now.rows) ≢ 0) }
-    ensures none { result ≡ false → kind_at next.now.kinds place ≡ Critical → dot F.ops x.now (column place stage.now.rows) ≡ 0 }
+    ensures some { result ≡ true
+        → (kind_at next.now.kinds place ≡ Critical) × (dot F.ops x.now (column place stage.now.rows) ≢ 0) }
+    ensures none { result ≡ false → kind_at next.now.kinds place ≡ Critical
+        → dot F.ops x.now (column place stage.now.rows) ≡ 0 }
 {
     match next.kind(place) {
         Kind::Critical => {
@@ -227,7 +236,8 @@ fn clear_value<F: Field>(next: &Stage<F>, indexes: &[u32], place: u32, values: &
     requires long { length indexes.now ≡ length next.now.kinds }
     requires place { place < length next.now.kinds }
     requires values { length values.old ≡ criticals next.now.kinds }
-    ensures critical { kind_at next.now.kinds place ≡ Critical → values.new ≡ slice_set values.old (slice_index indexes.now place) 0 }
+    ensures critical { kind_at next.now.kinds place ≡ Critical
+        → values.new ≡ slice_set values.old (slice_index indexes.now place) 0 }
     ensures other { (kind_at next.now.kinds place ≡ Critical → ⊥) → values.new ≡ values.old }
 {
     match next.kind(place) {

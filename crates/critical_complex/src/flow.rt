@@ -23,7 +23,9 @@ pub(crate) fn flow<F: Field>(
 ) -> Result<Cochain<F>, AllocError>
     requires paired { IsPaired F.ops stage.now next.now }
     requires values { length c.now ≡ criticals next.now.kinds }
-    ensures { IfOk result (IsFlow F.ops (length stage.now.kinds) (length next.now.kinds) stage.now.rows stage.now.kinds next.now.kinds c.now) }
+    ensures { IfOk result
+        (IsFlow F.ops (length stage.now.kinds) (length next.now.kinds) stage.now.rows stage.now.kinds
+        next.now.kinds c.now) }
 {
     let _elements = c.len();
     let mut boundary = boundary_of_spread(alloc, stage, next, c)?;
@@ -100,7 +102,9 @@ fn carry_pair<F: Field>(
     requires lower { pair.lower < length columns.now.rows }
     requires upper { pair.upper < columns.now.cols }
     requires nonzero { entry columns.now.rows pair.lower pair.upper ≢ 0 }
-    ensures chain { z.new ≡ bump F.ops z.old pair.upper (back_correction F.ops columns.now.rows (replicate (length columns.now.rows) 0) pair z.old) }
+    ensures chain { z.new
+        ≡ bump F.ops z.old pair.upper
+        (back_correction F.ops columns.now.rows (replicate (length columns.now.rows) 0) pair z.old) }
     ensures boundary { boundary.new ≡ boundary_of F.ops columns.now.rows z.new }
 {
     let missing = boundary.get(pair.lower + 1).neg();

@@ -31,7 +31,8 @@ pub(crate) fn list_indexes<F: Field>(
 /// Puts the index of each pair at the place of its upper.
 fn put_pairs<F: Field>(stage: &Stage<F>, indexes: &mut [u32])
     requires { AllByRecursion (λ p. p.upper < length indexes.old) stage.now.pairs }
-    ensures { (k : ℕ) → k < length stage.now.pairs → HasPair stage.now.pairs indexes.new ((pair_at stage.now.pairs k).upper) }
+    ensures { (k : ℕ) → k < length stage.now.pairs
+        → HasPair stage.now.pairs indexes.new ((pair_at stage.now.pairs k).upper) }
 {
     for index in 0..stage.units() {
         indexes[stage.pair(index).upper as usize] = index;
@@ -41,8 +42,10 @@ fn put_pairs<F: Field>(stage: &Stage<F>, indexes: &mut [u32])
 /// Puts the index of each critical cell among the critical ones at its place.
 fn put_columns<F: Field>(next: &Stage<F>, indexes: &mut [u32])
     requires { length indexes.old ≡ length next.now.kinds }
-    ensures columns { (col : ℕ) → col < criticals next.now.kinds → slice_index indexes.new (place_of next.now.kinds col) ≡ col }
-    ensures others { (j : ℕ) → kind_at next.now.kinds j ≡ Upper → slice_index indexes.new j ≡ slice_index indexes.old j }
+    ensures columns { (col : ℕ) → col < criticals next.now.kinds
+        → slice_index indexes.new (place_of next.now.kinds col) ≡ col }
+    ensures others { (j : ℕ) → kind_at next.now.kinds j ≡ Upper
+        → slice_index indexes.new j ≡ slice_index indexes.old j }
 {
     for col in 0..next.criticals() {
         indexes[next.critical_place(col) as usize] = col;

@@ -68,7 +68,10 @@ pub(crate) fn put_signs<F: Field, G: Signed>(
 ) -> Result<(), AllocError>
     requires first { 1 ≤ cell }
     requires last { cell ≤ count (G.space graded.now) dim }
-    ensures { OnOk result (signs.new.items ≡ map (λ facet. sign_element F.ops (G.negative graded.now dim cell facet)) (facets_of (G.space graded.now) dim cell)) }
+    ensures { OnOk result
+        (signs.new.items
+        ≡ map (λ facet. sign_element F.ops (G.negative graded.now dim cell facet))
+        (facets_of (G.space graded.now) dim cell)) }
 {
     signs.clear();
     for facet in graded.facets(dim, cell) {

@@ -20,9 +20,13 @@ impl Model for Parts {
 
     ghost Value = { Parts };
 
-    ghost view = { λ s. record { cells = cut 0 s.ends.items s.cells.items; values = cut 0 s.ends.items s.values.items } };
+    ghost view = { λ s.
+        record
+        { cells = cut 0 s.ends.items s.cells.items; values = cut 0 s.ends.items s.values.items } };
 
-    ghost invariant = { λ s. IsCut 0 s.ends.items (length s.cells.items) × (length s.values.items ≡ length s.cells.items) };
+    ghost invariant = { λ s.
+        IsCut 0 s.ends.items (length s.cells.items)
+        × (length s.values.items ≡ length s.cells.items) };
 }
 
 impl Parts {

@@ -3,7 +3,8 @@ ghost use Rattle.std.specs.Prelude.{◌≡◌, ◌++◌, ◌<◌, length, map, s
 ghost use Rattle.split_laws.specs.declared.kind.Kind.TheVariants.{Upper};
 ghost use Rattle.split_laws.specs.Pairs.{kind_at};
 ghost use Rattle.critical_complex.specs.Stages.{IsPaired};
-ghost use Rattle.critical_complex.specs.Reaches.{upper_index, AreDegrees, AreIndexes, HasCofaces, HasMore, IsClosed, IsOrder, IsReach};
+ghost use Rattle.critical_complex.specs.Reaches.{upper_index, AreDegrees, AreIndexes, HasCofaces, HasMore};
+ghost use Rattle.critical_complex.specs.Reaches.{IsClosed, IsOrder, IsReach};
 ghost use Rattle.critical_complex.specs.Units.{pair_at};
 
 use crate::indexes::list_indexes;
@@ -88,7 +89,8 @@ fn find_cells<F: Field, G: Signed>(
     requires most { found.old.most ≡ length next.now.kinds }
     requires place { place < length stage.now.kinds }
     ensures most { found.new.most ≡ found.old.most }
-    ensures closed { OnOk result (IsClosed (G.space graded.now) dim stage.now next.now indexes.now place found.new.found) }
+    ensures closed { OnOk result
+        (IsClosed (G.space graded.now) dim stage.now next.now indexes.now place found.new.found) }
 {
     found.clear();
     insert_cofaces(graded, dim, stage, next, place, found)?;
@@ -174,7 +176,10 @@ fn follow<F: Field, G: Signed>(
     requires place { place < length next.now.kinds }
     ensures most { found.new.most ≡ found.old.most }
     ensures more { OnOk result (HasMore found.old.found found.new.found) }
-    ensures cofaces { OnOk result (kind_at next.now.kinds place ≡ Upper → HasCofaces (G.space graded.now) dim ((pair_at stage.now.pairs (slice_index indexes.now place)).lower) found.new.found) }
+    ensures cofaces { OnOk result
+        (kind_at next.now.kinds place ≡ Upper
+        → HasCofaces (G.space graded.now) dim
+        ((pair_at stage.now.pairs (slice_index indexes.now place)).lower) found.new.found) }
 {
     match next.kind(place) {
         Kind::Critical => Ok(()),

@@ -5,7 +5,9 @@ ghost use Rattle.split_laws.specs.Kinds.{criticals, uppers};
 ghost use Rattle.critical_complex.specs.Stages.{critical_from, IsPaired};
 ghost use Rattle.critical_complex.specs.Reaches.{AreDegrees};
 ghost use Rattle.critical_complex.specs.Units.{pair_at, IsTriangular, IsUnitOf, MatchUppers};
-ghost use Rattle.critical_complex.specs.Splits.{stage_at, cells_at, kinds_at, AreFilled, AreFilledAt, IsClearedAt, IsExtensionAt, IsFilledAt, IsFlowAt, IsReducedAt, IsReductionOf, IsSplitting};
+ghost use Rattle.critical_complex.specs.Splits.{stage_at, cells_at, kinds_at, AreFilled, AreFilledAt};
+ghost use Rattle.critical_complex.specs.Splits.{IsClearedAt, IsExtensionAt, IsFilledAt, IsFlowAt};
+ghost use Rattle.critical_complex.specs.Splits.{IsReducedAt, IsReductionOf, IsSplitting};
 
 use crate::cleared::Cleared;
 use crate::coboundary::filled_rows;
@@ -48,7 +50,8 @@ impl<F: Field> Reduced<F> {
         field: &PairList,
     ) -> Result<Reduced<F>, AllocError>
         requires { IsFieldOf (G.space graded.now) field.now }
-        ensures reduction { IfOk result (IsReductionOf F.ops (G.space graded.now) (G.negative graded.now) field.now.pairs) }
+        ensures reduction { IfOk result
+            (IsReductionOf F.ops (G.space graded.now) (G.negative graded.now) field.now.pairs) }
         ensures splitting { IfOk result (IsSplitting F.ops) }
     {
         let stages = list_stages(alloc, graded, field)?;
@@ -162,7 +165,8 @@ impl<F: Field> Reduced<F> {
         requires degree { dim ≤ 3 }
         requires index { index < length (stage_at self.now dim).pairs }
         ensures unit { IfOk result (IsUnitOf (pair_at (stage_at self.now dim).pairs index)) }
-        ensures triangular { IfOk result (IsTriangular F.ops (stage_at self.now dim) (stage_at self.now (dim + 1)) index) }
+        ensures triangular { IfOk result
+            (IsTriangular F.ops (stage_at self.now dim) (stage_at self.now (dim + 1)) index) }
     {
         let stages: &[Stage<F>] = &self.stages;
         stages[dim as usize].unit(alloc, &stages[dim as usize + 1], index)
@@ -176,7 +180,8 @@ fn list_stages<F: Field, G: Signed>(
     field: &PairList,
 ) -> Result<Vec<Stage<F>>, AllocError>
     requires { IsFieldOf (G.space graded.now) field.now }
-    ensures { IfOk result (λ stages. IsReductionOf F.ops (G.space graded.now) (G.negative graded.now) field.now.pairs stages.items) }
+    ensures { IfOk result (λ stages.
+        IsReductionOf F.ops (G.space graded.now) (G.negative graded.now) field.now.pairs stages.items) }
 {
     let mut stages = Vec::new(alloc);
     for dim in 0..5 {
@@ -192,7 +197,9 @@ fn list_filled<F: Field, G: Signed>(
     stages: &[Stage<F>],
 ) -> Result<Vec<Filled<F>>, AllocError>
     requires splitting { IsSplitting F.ops stages.now }
-    requires degrees { (degree : ℕ) → degree < 4 → AreDegrees F.ops (G.space graded.now) (G.negative graded.now) degree (stage_at stages.now degree) (stage_at stages.now (suc degree)) }
+    requires degrees { (degree : ℕ) → degree < 4
+        → AreDegrees F.ops (G.space graded.now) (G.negative graded.now) degree (stage_at stages.now degree)
+        (stage_at stages.now (suc degree)) }
     ensures { IfOk result (λ filled. AreFilled F.ops stages.now 4 filled.items) }
 {
     let mut filled = Vec::new(alloc);

@@ -39,10 +39,13 @@ impl<F: Field> Model for Stage<F> {
 
     ghost Value = { Stage };
 
-    ghost view = { λ s. record { rows = s.columns.rows; cols = s.columns.cols; kinds = s.kinds.items; pairs = s.pairs.items } };
+    ghost view = { λ s. record
+        { rows = s.columns.rows; cols = s.columns.cols; kinds = s.kinds.items; pairs = s.pairs.items } };
 
     ghost invariant = { λ s.
-        (s.critical.items ≡ critical_from 1 s.kinds.items) × IsSmall (record { rows = s.columns.rows; cols = s.columns.cols; kinds = s.kinds.items; pairs = s.pairs.items }) };
+        (s.critical.items ≡ critical_from 1 s.kinds.items)
+        × IsSmall (record
+        { rows = s.columns.rows; cols = s.columns.cols; kinds = s.kinds.items; pairs = s.pairs.items }) };
 }
 
 impl<F: Field> Stage<F> {
@@ -190,7 +193,9 @@ impl<F: Field> Stage<F> {
     ) -> Result<Cochain<F>, AllocError>
         requires paired { IsPaired F.ops self.now next.now }
         requires values { length w.now ≡ criticals self.now.kinds }
-        ensures { IfOk result (IsExtension F.ops (length self.now.kinds) (length next.now.kinds) self.now.rows self.now.kinds next.now.kinds w.now) }
+        ensures { IfOk result
+            (IsExtension F.ops (length self.now.kinds) (length next.now.kinds) self.now.rows self.now.kinds
+            next.now.kinds w.now) }
     {
         let _elements = w.len();
         let zeros = Cochain::zero(alloc, next.len())?;
@@ -209,7 +214,9 @@ impl<F: Field> Stage<F> {
     ) -> Result<Cleared<F>, AllocError>
         requires paired { IsPaired F.ops self.now next.now }
         requires cochain { length x.now ≡ length next.now.kinds }
-        ensures { IfOk result (λ r. IsCleared F.ops (length self.now.kinds) (length next.now.kinds) self.now.rows self.now.kinds next.now.kinds x.now r.w r.y) }
+        ensures { IfOk result (λ r.
+            IsCleared F.ops (length self.now.kinds) (length next.now.kinds) self.now.rows self.now.kinds
+            next.now.kinds x.now r.w r.y) }
     {
         let _elements = x.len();
         let mut y = Cochain::zero(alloc, self.len())?;
@@ -245,7 +252,8 @@ impl<F: Field> Stage<F> {
         requires paired { IsPaired F.ops self.now next.now }
         requires cochain { length x.now ≡ length next.now.kinds }
         requires below { length y.now ≡ length self.now.kinds }
-        ensures { IfOk result (λ w. w ≡ part next.now.kinds (without F.ops (length next.now.kinds) self.now.rows x.now y.now)) }
+        ensures { IfOk result
+            (λ w. w ≡ part next.now.kinds (without F.ops (length next.now.kinds) self.now.rows x.now y.now)) }
     {
         let count = next.criticals();
         let mut w = Row::zero(alloc, count)?;

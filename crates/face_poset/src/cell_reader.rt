@@ -1,4 +1,5 @@
-ghost use Rattle.std.specs.Prelude.{◌≡◌, ◌≢◌, ◌≤◌, ◌<◌, ◌+◌, ◌∷◌, ◌==◌, ◌||◌, nat_lt, ℕ, length, slice_index, MatchBool, IfOk, IfErr, OnOk, Ok, Err};
+ghost use Rattle.std.specs.Prelude.{◌≡◌, ◌≢◌, ◌≤◌, ◌<◌, ◌+◌, ◌∷◌, ◌==◌, ◌||◌, nat_lt, ℕ, length, slice_index};
+ghost use Rattle.std.specs.Prelude.{MatchBool, IfOk, IfErr, OnOk, Ok, Err};
 ghost use Rattle.std.specs.List.{list_any};
 ghost use Rattle.std.specs.List.Sorted.{IsStrictlyIncreasing};
 ghost use Rattle.gap_text.specs.Nest.{view};

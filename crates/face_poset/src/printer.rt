@@ -134,7 +134,8 @@ fn put_cell<K: Sink>(
 
 /// Puts the text of a vertex after a lead.
 fn put_vertex<K: Sink>(sink: &mut K, held: &mut Held, lead: &[u8]) -> Result<(), Failed>
-    ensures bytes { Gathers (K.written sink.old) (K.written sink.new) held.old held.new (lead.now ++ codes "[1,0]") result }
+    ensures bytes { Gathers (K.written sink.old) (K.written sink.new) held.old held.new (lead.now ++ codes "[1,0]")
+        result }
     ensures cause { HasCause (K.faults sink.old) (K.faults sink.new) result }
 {
     held.put(sink, &[Piece::Text(lead), Piece::Text(b"[1,0]")])
@@ -147,7 +148,8 @@ fn open_cell<K: Sink>(
     lead: &[u8],
     count: usize,
 ) -> Result<(), Failed>
-    ensures bytes { Gathers (K.written sink.old) (K.written sink.new) held.old held.new (lead.now ++ 91 ∷ decimal count) result }
+    ensures bytes { Gathers (K.written sink.old) (K.written sink.new) held.old held.new (lead.now ++ 91 ∷ decimal count)
+        result }
     ensures cause { HasCause (K.faults sink.old) (K.faults sink.new) result }
 {
     held.put(
@@ -162,7 +164,8 @@ fn open_cell<K: Sink>(
 
 /// Puts the facets, each with a comma before it.
 fn put_facets<K: Sink>(sink: &mut K, held: &mut Held, facets: &[u32]) -> Result<(), Failed>
-    ensures bytes { Gathers (K.written sink.old) (K.written sink.new) held.old held.new (facet_texts facets.now) result }
+    ensures bytes { Gathers (K.written sink.old) (K.written sink.new) held.old held.new (facet_texts facets.now)
+        result }
     ensures cause { HasCause (K.faults sink.old) (K.faults sink.new) result }
 {
     for facet in facets {

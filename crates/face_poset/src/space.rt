@@ -4,7 +4,8 @@ ghost use Rattle.hap_outside.specs.Writes.{Writes};
 ghost use Rattle.face_poset.specs.Text.{boundary_text};
 ghost use Rattle.face_poset.specs.Laws.{ReadsAs};
 ghost use Rattle.face_poset.specs.Below.{closed_cell};
-ghost use Rattle.face_poset.specs.Poset.{count, facets_of, cofaces_of, IsSpace, IsLimited, dimension_of, IsDimension, euler_of};
+ghost use Rattle.face_poset.specs.Poset.{count, facets_of, cofaces_of, IsSpace, IsLimited, dimension_of};
+ghost use Rattle.face_poset.specs.Poset.{IsDimension, euler_of};
 
 use crate::below::push_closure;
 use crate::cells::CellList;

@@ -3,7 +3,7 @@
 ghost use Rattle.std.specs.Prelude.{◌≡◌, ℕ, ◌+◌, ◌*◌, ◌<◌, ◌≤◌, ◌^◌, ◌++◌, List, length, IfOk};
 ghost use Rattle.linear_laws.specs.Vectors.{IsMatrix, column, row_at};
 ghost use Rattle.linear_laws.specs.Echelon.{IsReducedBelow};
-ghost use Rattle.field_matrix.specs.Rows.{cut, IsFilled};
+ghost use Rattle.field_matrix.specs.Rows.{cut, IsFilled, rows_in};
 ghost use Rattle.field_matrix.specs.Steps.{IsReducedBy};
 ghost use Rattle.field_matrix.specs.Solutions.{above, IsComplement};
 
@@ -44,7 +44,9 @@ fn complement_rows<F: Field>(
     requires few_first { first_shape.rows < 2 ^ 32 }
     requires few_others { shape.rows < 2 ^ 32 }
     requires few_cols { shape.cols < 2 ^ 32 }
-    ensures { IfOk result (λ places. IsComplement F.ops shape.cols (cut first_shape.rows shape.cols first.now) (cut shape.rows shape.cols others.now) places) }
+    ensures { IfOk result (λ places.
+        IsComplement F.ops shape.cols (cut first_shape.rows shape.cols first.now)
+        (rows_in shape others.now) places) }
 {
     let mut columns = transposed(alloc, first, first_shape, others, shape)?;
     let turned = Shape {
@@ -68,8 +70,10 @@ fn pivots_from(
     requires begin { begin < 2 ^ 32 }
     requires cols { shape.cols < begin + 2 ^ 32 }
     requires begins { begin ≤ shape.cols }
-    requires reduced { IsReducedBy shape.cols rank (cut shape.rows shape.cols entries.now) }
-    ensures { IfOk result (λ places. (pivots : List ℕ) → IsReducedBelow shape.cols (cut shape.rows shape.cols entries.now) pivots → length pivots ≡ rank → places.items ≡ above begin pivots) }
+    requires reduced { IsReducedBy shape.cols rank (rows_in shape entries.now) }
+    ensures { IfOk result (λ places.
+        (pivots : List ℕ) → IsReducedBelow shape.cols (rows_in shape entries.now) pivots
+        → length pivots ≡ rank → places.items ≡ above begin pivots) }
 {
     let mut places = Vec::new(alloc);
     for i in 0..rank {
@@ -94,7 +98,10 @@ fn transposed(
     requires others { length others.now ≡ shape.rows * shape.cols }
     requires cols { first_shape.cols ≡ shape.cols }
     ensures long { IfOk result (λ columns. length columns.items ≡ shape.cols * (first_shape.rows + shape.rows)) }
-    ensures columns { IfOk result (λ columns. (j : ℕ) → j < shape.cols → row_at (cut shape.cols (first_shape.rows + shape.rows) columns.items) j ≡ column j (cut first_shape.rows shape.cols first.now ++ cut shape.rows shape.cols others.now)) }
+    ensures columns { IfOk result (λ columns.
+        (j : ℕ) → j < shape.cols
+        → row_at (cut shape.cols (first_shape.rows + shape.rows) columns.items) j
+        ≡ column j (cut first_shape.rows shape.cols first.now ++ rows_in shape others.now)) }
 {
     let mut columns = Vec::new(alloc);
     for col in 0..shape.cols {
@@ -113,7 +120,7 @@ fn push_column(
 ) -> Result<(), AllocError>
     requires shape { length entries.now ≡ shape.rows * shape.cols }
     requires col { col < shape.cols }
-    ensures { IfOk result (λ _. columns.new.items ≡ columns.old.items ++ column col (cut shape.rows shape.cols entries.now)) }
+    ensures { IfOk result (λ _. columns.new.items ≡ columns.old.items ++ column col (rows_in shape entries.now)) }
 {
     for row in 0..shape.rows {
         columns.push(entry_of(entries, shape, row, col))?;

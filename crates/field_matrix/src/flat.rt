@@ -1,10 +1,11 @@
 //! Rows of one length, one after the other in one slice.
 
-ghost use Rattle.std.specs.Prelude.{◌≡◌, ◌≢◌, ℕ, ◌+◌, ◌*◌, ◌<◌, ◌≤◌, ◌^◌, not, length, map, slice_set, slice_range, All};
+ghost use Rattle.std.specs.Prelude.{◌≡◌, ◌≢◌, ℕ, ◌+◌, ◌*◌, ◌<◌, ◌≤◌, ◌^◌, not, length, map, slice_set};
+ghost use Rattle.std.specs.Prelude.{slice_range, All};
 ghost use Rattle.linear_laws.specs.Vectors.{IsMatrix, plus_scaled, row_at, entry};
 ghost use Rattle.small_field.specs.Values.{AreElements};
 ghost use Rattle.linear_laws.specs.Echelon.{is_nonzero};
-ghost use Rattle.field_matrix.specs.Rows.{cut};
+ghost use Rattle.field_matrix.specs.Rows.{rows_in};
 
 use small_field::Field;
 
@@ -29,7 +30,7 @@ pub fn begin_of(entries: &[u8], shape: Shape, row: usize) -> usize
 pub fn row_of(entries: &[u8], shape: Shape, row: usize) -> &[u8]
     requires shape { length entries.now ≡ shape.rows * shape.cols }
     requires row { row < shape.rows }
-    ensures row { result.now ≡ row_at (cut shape.rows shape.cols entries.now) row }
+    ensures row { result.now ≡ row_at (rows_in shape entries.now) row }
     ensures long { length result.now ≡ shape.cols }
 {
     let begin = begin_of(entries, shape, row);
@@ -41,7 +42,7 @@ pub fn entry_of(entries: &[u8], shape: Shape, row: usize, col: usize) -> u8
     requires shape { length entries.now ≡ shape.rows * shape.cols }
     requires row { row < shape.rows }
     requires col { col < shape.cols }
-    ensures { result ≡ entry (cut shape.rows shape.cols entries.now) row col }
+    ensures { result ≡ entry (rows_in shape entries.now) row col }
 {
     entries[begin_of(entries, shape, row) + col]
 }
@@ -60,7 +61,9 @@ pub fn set_entry(entries: &mut [u8], shape: Shape, row: usize, col: usize, value
     requires shape { length entries.old ≡ shape.rows * shape.cols }
     requires row { row < shape.rows }
     requires col { col < shape.cols }
-    ensures { cut shape.rows shape.cols entries.new ≡ slice_set (cut shape.rows shape.cols entries.old) row (slice_set (row_at (cut shape.rows shape.cols entries.old) row) col value) }
+    ensures { rows_in shape entries.new
+        ≡ slice_set (rows_in shape entries.old) row
+        (slice_set (row_at (rows_in shape entries.old) row) col value) }
 {
     let begin = begin_of(entries, shape, row);
     entries[begin + col] = value;
@@ -71,7 +74,7 @@ pub fn set_row(entries: &mut [u8], shape: Shape, row: usize, source: &[u8])
     requires shape { length entries.old ≡ shape.rows * shape.cols }
     requires row { row < shape.rows }
     requires source { length source.now ≡ shape.cols }
-    ensures { cut shape.rows shape.cols entries.new ≡ slice_set (cut shape.rows shape.cols entries.old) row source.now }
+    ensures { rows_in shape entries.new ≡ slice_set (rows_in shape entries.old) row source.now }
 {
     let begin = begin_of(entries, shape, row);
     let (_, rest) = entries.split_at_mut(begin);
@@ -93,8 +96,10 @@ pub fn scale<F: Field>(numbers: &mut [u8], factor: F)
 pub fn scale_row<F: Field>(entries: &mut [u8], shape: Shape, row: usize, factor: F)
     requires shape { length entries.old ≡ shape.rows * shape.cols }
     requires row { row < shape.rows }
-    requires matrix { IsMatrix F.ops shape.cols (cut shape.rows shape.cols entries.old) }
-    ensures { cut shape.rows shape.cols entries.new ≡ slice_set (cut shape.rows shape.cols entries.old) row (map (F.ops.mul (F.number_of factor)) (row_at (cut shape.rows shape.cols entries.old) row)) }
+    requires matrix { IsMatrix F.ops shape.cols (rows_in shape entries.old) }
+    ensures { rows_in shape entries.new
+        ≡ slice_set (rows_in shape entries.old) row
+        (map (F.ops.mul (F.number_of factor)) (row_at (rows_in shape entries.old) row)) }
 {
     let begin = begin_of(entries, shape, row);
     let (_, rest) = entries.split_at_mut(begin);
@@ -108,8 +113,11 @@ pub fn combine_rows<F: Field>(entries: &mut [u8], shape: Shape, to: usize, from:
     requires to { to < shape.rows }
     requires from { from < shape.rows }
     requires apart { to ≢ from }
-    requires matrix { IsMatrix F.ops shape.cols (cut shape.rows shape.cols entries.old) }
-    ensures { cut shape.rows shape.cols entries.new ≡ slice_set (cut shape.rows shape.cols entries.old) to (plus_scaled F.ops (F.number_of factor) (row_at (cut shape.rows shape.cols entries.old) to) (row_at (cut shape.rows shape.cols entries.old) from)) }
+    requires matrix { IsMatrix F.ops shape.cols (rows_in shape entries.old) }
+    ensures { rows_in shape entries.new
+        ≡ slice_set (rows_in shape entries.old) to
+        (plus_scaled F.ops (F.number_of factor) (row_at (rows_in shape entries.old) to)
+        (row_at (rows_in shape entries.old) from)) }
 {
     let cols = shape.cols;
     let begin = begin_of(entries, shape, to);

@@ -3,7 +3,7 @@
 ghost use Rattle.std.specs.Prelude.{◌≡◌, ℕ, ◌+◌, ◌*◌, ◌<◌, ◌≤◌, ◌^◌, List, length, IfOk};
 ghost use Rattle.linear_laws.specs.Vectors.{IsHistory};
 ghost use Rattle.linear_laws.specs.Echelon.{IsReducedTo, rank_of};
-ghost use Rattle.field_matrix.specs.Rows.{cut, IsFilled};
+ghost use Rattle.field_matrix.specs.Rows.{cut, IsFilled, rows_in};
 
 use crate::flat::Shape;
 use crate::joined::{beside_identity, left_halves, right_halves};
@@ -33,7 +33,9 @@ impl<F: Field> Matrix<F> {
         steps: &mut Steps<L>,
     ) -> Result<Elimination<F>, AllocError>
         ensures cols { IfOk result (λ e. e.reduced.cols ≡ self.now.cols) }
-        ensures reduced { IfOk result (λ e. IsReducedTo F.ops self.now.cols (rank_of e.reduced.rows) self.now.cols self.now.rows e.reduced.rows) }
+        ensures reduced { IfOk result (λ e.
+            IsReducedTo F.ops self.now.cols (rank_of e.reduced.rows) self.now.cols self.now.rows
+            e.reduced.rows) }
         ensures history_cols { IfOk result (λ e. e.history.cols ≡ length self.now.rows) }
         ensures history { IfOk result (λ e. IsHistory F.ops self.now.cols self.now.rows e.reduced.rows e.history.rows) }
         ensures steps { steps.new ≤ steps.old + length self.now.rows * self.now.cols }
@@ -65,8 +67,12 @@ fn eliminate_rows<F: Field, L: Ledger>(
     requires few_cols { shape.cols < 2 ^ 32 }
     ensures left { IfOk result (λ h. IsFilled F.ops shape.rows shape.cols h.left.items) }
     ensures right { IfOk result (λ h. IsFilled F.ops shape.rows shape.rows h.right.items) }
-    ensures reduced { IfOk result (λ h. IsReducedTo F.ops shape.cols (rank_of (cut shape.rows shape.cols h.left.items)) shape.cols (cut shape.rows shape.cols entries.now) (cut shape.rows shape.cols h.left.items)) }
-    ensures history { IfOk result (λ h. IsHistory F.ops shape.cols (cut shape.rows shape.cols entries.now) (cut shape.rows shape.cols h.left.items) (cut shape.rows shape.rows h.right.items)) }
+    ensures reduced { IfOk result (λ h.
+        IsReducedTo F.ops shape.cols (rank_of (rows_in shape h.left.items)) shape.cols
+        (rows_in shape entries.now) (rows_in shape h.left.items)) }
+    ensures history { IfOk result (λ h.
+        IsHistory F.ops shape.cols (rows_in shape entries.now) (rows_in shape h.left.items)
+        (cut shape.rows shape.rows h.right.items)) }
     ensures steps { steps.new ≤ steps.old + shape.rows * shape.cols }
 {
     let mut joined = beside_identity(alloc, entries, shape)?;

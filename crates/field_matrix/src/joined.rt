@@ -1,11 +1,12 @@
 //! Rows with the rows of the identity beside them, so that elimination keeps its history.
 
-ghost use Rattle.std.specs.Prelude.{◌≡◌, ◌≢◌, ℕ, ◌+◌, ◌-◌, ◌*◌, ◌<◌, ◌≤◌, ◌^◌, ◌++◌, ◌==◌, if◌then◌else◌, length, map, take, drop, replicate, IfOk, All};
+ghost use Rattle.std.specs.Prelude.{◌≡◌, ◌≢◌, ℕ, ◌+◌, ◌-◌, ◌*◌, ◌<◌, ◌≤◌, ◌^◌, ◌++◌, ◌==◌, if◌then◌else◌};
+ghost use Rattle.std.specs.Prelude.{length, map, take, drop, replicate, IfOk, All};
 ghost use Rattle.linear_laws.specs.Vectors.{IsVector, IsMatrix, row_at};
 ghost use Rattle.small_field.specs.Values.{AreElements};
 ghost use Rattle.linear_laws.specs.Echelon.{IsReducedTo};
 ghost use Rattle.linear_laws.specs.Marks.{mark, identity, beside, lefts, rights};
-ghost use Rattle.field_matrix.specs.Rows.{cut};
+ghost use Rattle.field_matrix.specs.Rows.{cut, rows_in};
 ghost use Rattle.field_matrix.specs.Steps.{IsReducedBy, IsSwept, IsClearAt};
 
 use crate::flat::{Shape, row_of};
@@ -43,7 +44,9 @@ fn push_beside(
 pub fn beside_identity(alloc: Global, entries: &[u8], shape: Shape) -> Result<Vec<u8>, AllocError>
     requires shape { length entries.now ≡ shape.rows * shape.cols }
     ensures long { IfOk result (λ joined. length joined.items ≡ shape.rows * (shape.cols + shape.rows)) }
-    ensures rows { IfOk result (λ joined. cut shape.rows (shape.cols + shape.rows) joined.items ≡ beside (cut shape.rows shape.cols entries.now) (identity shape.rows)) }
+    ensures rows { IfOk result (λ joined.
+        cut shape.rows (shape.cols + shape.rows) joined.items
+        ≡ beside (rows_in shape entries.now) (identity shape.rows)) }
 {
     let mut joined = Vec::new(alloc);
     for row in 0..shape.rows {
@@ -60,11 +63,11 @@ fn reduce_with<F: Field, L: Ledger>(
 ) -> usize
     requires shape { length entries.old ≡ shape.rows * shape.cols }
     requires upto { upto ≤ shape.cols }
-    requires matrix { IsMatrix F.ops shape.cols (cut shape.rows shape.cols entries.old) }
+    requires matrix { IsMatrix F.ops shape.cols (rows_in shape entries.old) }
     requires name { blank.name ≡ L.name }
     requires parts { blank.parts ≡ L.parts }
     requires some { 0 < L.parts }
-    ensures { IsReducedTo F.ops shape.cols result upto (cut shape.rows shape.cols entries.old) (cut shape.rows shape.cols entries.new) }
+    ensures { IsReducedTo F.ops shape.cols result upto (rows_in shape entries.old) (rows_in shape entries.new) }
 {
     let mut steps = Steps::<L>::new(blank);
     reduce_rows::<F, L>(entries, shape, upto, &mut steps)
@@ -74,8 +77,8 @@ fn reduce_with<F: Field, L: Ledger>(
 pub fn reduce_uncounted<F: Field>(entries: &mut [u8], shape: Shape, upto: usize) -> usize
     requires shape { length entries.old ≡ shape.rows * shape.cols }
     requires upto { upto ≤ shape.cols }
-    requires matrix { IsMatrix F.ops shape.cols (cut shape.rows shape.cols entries.old) }
-    ensures { IsReducedTo F.ops shape.cols result upto (cut shape.rows shape.cols entries.old) (cut shape.rows shape.cols entries.new) }
+    requires matrix { IsMatrix F.ops shape.cols (rows_in shape entries.old) }
+    ensures { IsReducedTo F.ops shape.cols result upto (rows_in shape entries.old) (rows_in shape entries.new) }
 {
     reduce_with::<F, Brand>(entries, shape, upto, Blank::new(1))
 }
@@ -101,12 +104,12 @@ pub fn sweep<F: Field>(joined: &[u8], shape: Shape, width: usize, rank: usize, r
     requires shape { length joined.now ≡ shape.rows * shape.cols }
     requires width { width ≤ shape.cols }
     requires few { width < 2 ^ 32 }
-    requires matrix { IsMatrix F.ops shape.cols (cut shape.rows shape.cols joined.now) }
-    requires reduced { IsReducedBy width rank (cut shape.rows shape.cols joined.now) }
+    requires matrix { IsMatrix F.ops shape.cols (rows_in shape joined.now) }
+    requires reduced { IsReducedBy width rank (rows_in shape joined.now) }
     requires row { IsVector F.ops shape.cols row.old }
     ensures vector { IsVector F.ops shape.cols row.new }
-    ensures swept { IsSwept F.ops shape.cols (cut shape.rows shape.cols joined.now) row.old row.new }
-    ensures clear { IsClearAt width rank (cut shape.rows shape.cols joined.now) row.new }
+    ensures swept { IsSwept F.ops shape.cols (rows_in shape joined.now) row.old row.new }
+    ensures clear { IsClearAt width rank (rows_in shape joined.now) row.new }
 {
     for i in 0..rank {
         let source = row_of(joined, shape, i);
@@ -128,7 +131,9 @@ pub fn right_halves(
     requires width { width ≤ shape.cols }
     requires from { from ≤ shape.rows }
     ensures long { IfOk result (λ halves. length halves.items ≡ (shape.rows - from) * (shape.cols - width)) }
-    ensures rows { IfOk result (λ halves. cut (shape.rows - from) (shape.cols - width) halves.items ≡ drop from (rights width (cut shape.rows shape.cols joined.now))) }
+    ensures rows { IfOk result (λ halves.
+        cut (shape.rows - from) (shape.cols - width) halves.items
+        ≡ drop from (rights width (rows_in shape joined.now))) }
 {
     let mut halves = Vec::new(alloc);
     for row in from..shape.rows {
@@ -147,7 +152,7 @@ pub fn left_halves(
     requires shape { length joined.now ≡ shape.rows * shape.cols }
     requires width { width ≤ shape.cols }
     ensures long { IfOk result (λ halves. length halves.items ≡ shape.rows * width) }
-    ensures rows { IfOk result (λ halves. cut shape.rows width halves.items ≡ lefts width (cut shape.rows shape.cols joined.now)) }
+    ensures rows { IfOk result (λ halves. cut shape.rows width halves.items ≡ lefts width (rows_in shape joined.now)) }
 {
     let mut halves = Vec::new(alloc);
     for row in 0..shape.rows {

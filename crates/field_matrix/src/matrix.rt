@@ -1,6 +1,7 @@
 //! Matrices, and their reduced row echelon form.
 
-ghost use Rattle.std.specs.Prelude.{◌≡◌, ℕ, ◌+◌, ◌*◌, ◌<◌, ◌≤◌, ◌^◌, ◌++◌, ◌∷◌, [], List, length, replicate, slice_index, slice_set, Some, IfOk, OnOk, OnErr};
+ghost use Rattle.std.specs.Prelude.{◌≡◌, ℕ, ◌+◌, ◌*◌, ◌<◌, ◌≤◌, ◌^◌, ◌++◌, ◌∷◌, [], List, length, replicate};
+ghost use Rattle.std.specs.Prelude.{slice_index, slice_set, Some, IfOk, OnOk, OnErr};
 ghost use Rattle.lane_rows.specs.Lanes.{first_place};
 ghost use Rattle.linear_laws.specs.Vectors.{IsMatrix, IsBasis, row_at, entry};
 ghost use Rattle.small_field.specs.Values.{AreElements};
@@ -85,7 +86,8 @@ impl<F: Field> Matrix<F> {
         requires row { row < length self.old.rows }
         requires col { col < self.old.cols }
         ensures cols { self.new.cols ≡ self.old.cols }
-        ensures rows { self.new.rows ≡ slice_set self.old.rows row (slice_set (row_at self.old.rows row) col (F.number_of value)) }
+        ensures rows { self.new.rows
+            ≡ slice_set self.old.rows row (slice_set (row_at self.old.rows row) col (F.number_of value)) }
     {
         let shape = Shape {
             rows: self.rows as usize,
@@ -124,7 +126,8 @@ impl<F: Field> Matrix<F> {
     /// Each row addition is one step, and there are at most rows times rank.
     pub fn reduce<L: Ledger>(&mut self, steps: &mut Steps<L>)
         ensures cols { self.new.cols ≡ self.old.cols }
-        ensures reduced { IsReducedTo F.ops self.old.cols (rank_of self.new.rows) self.old.cols self.old.rows self.new.rows }
+        ensures reduced { IsReducedTo F.ops self.old.cols (rank_of self.new.rows) self.old.cols self.old.rows
+            self.new.rows }
         ensures steps { steps.new ≤ steps.old + length self.old.rows * rank_of self.new.rows }
     {
         let shape = Shape {
@@ -139,8 +142,10 @@ impl<F: Field> Matrix<F> {
     pub fn rank(&self) -> u32
         requires { IsReduced self.now.cols self.now.rows }
         ensures rank { result ≡ rank_of self.now.rows }
-        ensures pivots { (pivots : List ℕ) → IsReducedBelow self.now.cols self.now.rows pivots → length pivots ≡ result }
-        ensures dimension { (basis : List (List ℕ)) → IsBasis F.ops self.now.cols self.now.rows basis → length basis ≡ result }
+        ensures pivots { (pivots : List ℕ) → IsReducedBelow self.now.cols self.now.rows pivots
+            → length pivots ≡ result }
+        ensures dimension { (basis : List (List ℕ)) → IsBasis F.ops self.now.cols self.now.rows basis
+            → length basis ≡ result }
     {
         let shape = Shape {
             rows: self.rows as usize,
@@ -160,7 +165,8 @@ impl<F: Field> Matrix<F> {
         requires reduced { IsReduced self.now.cols self.now.rows }
         requires row { row < rank_of self.now.rows }
         ensures first { first_place (row_at self.now.rows row) ≡ Some result }
-        ensures pivots { (pivots : List ℕ) → IsReducedBelow self.now.cols self.now.rows pivots → slice_index pivots row ≡ result }
+        ensures pivots { (pivots : List ℕ) → IsReducedBelow self.now.cols self.now.rows pivots
+            → slice_index pivots row ≡ result }
     {
         let shape = Shape {
             rows: self.rows as usize,

@@ -3,7 +3,7 @@
 ghost use Rattle.std.specs.Prelude.{◌≡◌, ◌≢◌, ℕ, ◌+◌, ◌*◌, ◌<◌, ◌≤◌, length, slice_index, slice_set, IfSome, IfNone};
 ghost use Rattle.linear_laws.specs.Vectors.{IsMatrix, SameSpan, plus_scaled, row_at, entry};
 ghost use Rattle.linear_laws.specs.Echelon.{IsReducedTo};
-ghost use Rattle.field_matrix.specs.Rows.{cut};
+ghost use Rattle.field_matrix.specs.Rows.{rows_in};
 ghost use Rattle.field_matrix.specs.Steps.{IsCleared, IsPivotRow, IsBroughtUp, IsNextPivot, ZeroBelow, ZerosBetween};
 
 use crate::flat::{Shape, combine_rows, entry_of, row_of, scale_row};
@@ -20,8 +20,8 @@ pub fn reduce_rows<F: Field, L: Ledger>(
 ) -> usize
     requires shape { length entries.old ≡ shape.rows * shape.cols }
     requires upto { upto ≤ shape.cols }
-    requires matrix { IsMatrix F.ops shape.cols (cut shape.rows shape.cols entries.old) }
-    ensures reduced { IsReducedTo F.ops shape.cols result upto (cut shape.rows shape.cols entries.old) (cut shape.rows shape.cols entries.new) }
+    requires matrix { IsMatrix F.ops shape.cols (rows_in shape entries.old) }
+    ensures reduced { IsReducedTo F.ops shape.cols result upto (rows_in shape entries.old) (rows_in shape entries.new) }
     ensures steps { steps.new ≤ steps.old + shape.rows * result }
 {
     let mut rank = 0;
@@ -53,8 +53,8 @@ fn find_pivot(entries: &[u8], shape: Shape, rank: usize, begin: usize, upto: usi
     requires shape { length entries.now ≡ shape.rows * shape.cols }
     requires begin { begin ≤ upto }
     requires upto { upto ≤ shape.cols }
-    ensures found { IfSome result (λ at. IsNextPivot (cut shape.rows shape.cols entries.now) rank begin upto at.row at.col) }
-    ensures none { IfNone result (ZerosBetween (cut shape.rows shape.cols entries.now) rank begin upto) }
+    ensures found { IfSome result (λ at. IsNextPivot (rows_in shape entries.now) rank begin upto at.row at.col) }
+    ensures none { IfNone result (ZerosBetween (rows_in shape entries.now) rank begin upto) }
 {
     let mut best = Pivot {
         row: rank,
@@ -98,13 +98,13 @@ fn bring_up<F: Field, L: Ledger>(
 )
     requires shape { length entries.old ≡ shape.rows * shape.cols }
     requires col { col < shape.cols }
-    requires matrix { IsMatrix F.ops shape.cols (cut shape.rows shape.cols entries.old) }
+    requires matrix { IsMatrix F.ops shape.cols (rows_in shape entries.old) }
     requires order { rank ≤ here }
     requires here { here < shape.rows }
-    requires zero { ZeroBelow rank col (cut shape.rows shape.cols entries.old) }
-    requires nonzero { entry (cut shape.rows shape.cols entries.old) here col ≢ 0 }
-    requires first { (a : ℕ) → rank ≤ a → a < here → entry (cut shape.rows shape.cols entries.old) a col ≡ 0 }
-    ensures up { IsBroughtUp F.ops shape.cols rank col (cut shape.rows shape.cols entries.old) (cut shape.rows shape.cols entries.new) }
+    requires zero { ZeroBelow rank col (rows_in shape entries.old) }
+    requires nonzero { entry (rows_in shape entries.old) here col ≢ 0 }
+    requires first { (a : ℕ) → rank ≤ a → a < here → entry (rows_in shape entries.old) a col ≡ 0 }
+    ensures up { IsBroughtUp F.ops shape.cols rank col (rows_in shape entries.old) (rows_in shape entries.new) }
     ensures steps { steps.new ≤ steps.old + 1 }
 {
     let inverse = F::from_number(entry_of(entries, shape, here, col) as u32).inv();
@@ -126,9 +126,10 @@ fn clear_column<F: Field, L: Ledger>(
     requires shape { length entries.old ≡ shape.rows * shape.cols }
     requires rank { rank < shape.rows }
     requires col { col < shape.cols }
-    requires matrix { IsMatrix F.ops shape.cols (cut shape.rows shape.cols entries.old) }
-    requires pivot { IsPivotRow (cut shape.rows shape.cols entries.old) rank col }
-    ensures cleared { IsCleared F.ops shape.cols rank col shape.rows (cut shape.rows shape.cols entries.old) (cut shape.rows shape.cols entries.new) }
+    requires matrix { IsMatrix F.ops shape.cols (rows_in shape entries.old) }
+    requires pivot { IsPivotRow (rows_in shape entries.old) rank col }
+    ensures cleared { IsCleared F.ops shape.cols rank col shape.rows (rows_in shape entries.old)
+        (rows_in shape entries.new) }
     ensures steps { steps.new + 1 ≤ steps.old + shape.rows }
 {
     for i in 0..shape.rows {
@@ -155,8 +156,11 @@ fn add_row<F: Field, L: Ledger>(
     requires to { to < shape.rows }
     requires from { from < shape.rows }
     requires apart { to ≢ from }
-    requires matrix { IsMatrix F.ops shape.cols (cut shape.rows shape.cols entries.old) }
-    ensures rows { cut shape.rows shape.cols entries.new ≡ slice_set (cut shape.rows shape.cols entries.old) to (plus_scaled F.ops (F.number_of factor) (row_at (cut shape.rows shape.cols entries.old) to) (row_at (cut shape.rows shape.cols entries.old) from)) }
+    requires matrix { IsMatrix F.ops shape.cols (rows_in shape entries.old) }
+    ensures rows { rows_in shape entries.new
+        ≡ slice_set (rows_in shape entries.old) to
+        (plus_scaled F.ops (F.number_of factor) (row_at (rows_in shape entries.old) to)
+        (row_at (rows_in shape entries.old) from)) }
     ensures steps { steps.new ≡ steps.old + 1 }
 {
     steps.tick();

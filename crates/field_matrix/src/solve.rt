@@ -5,7 +5,7 @@ ghost use Rattle.linear_laws.specs.Vectors.{IsVector, IsMatrix, IsKernelBasis};
 ghost use Rattle.small_field.specs.Values.{AreElements};
 ghost use Rattle.linear_laws.specs.Echelon.{IsReducedTo};
 ghost use Rattle.linear_laws.specs.Marks.{identity, beside};
-ghost use Rattle.field_matrix.specs.Rows.{cut, IsFilled};
+ghost use Rattle.field_matrix.specs.Rows.{cut, IsFilled, rows_in};
 ghost use Rattle.field_matrix.specs.Solutions.{IsAnswer};
 ghost use Rattle.field_matrix.specs.Steps.{IsReducedBy, IsSwept, IsClearAt};
 
@@ -30,7 +30,10 @@ impl<F: Field> Matrix<F> {
     pub fn kernel(&self, alloc: Global) -> Result<Matrix<F>, AllocError>
         ensures cols { IfOk result (λ kernel. kernel.cols ≡ length self.now.rows) }
         ensures basis { IfOk result (λ kernel. IsKernelBasis F.ops self.now.cols self.now.rows kernel.rows) }
-        ensures count { IfOk result (λ kernel. (rank : ℕ) (reduced : List (List ℕ)) → IsReducedTo F.ops self.now.cols rank self.now.cols self.now.rows reduced → length kernel.rows + rank ≡ length self.now.rows) }
+        ensures count { IfOk result (λ kernel.
+            (rank : ℕ) (reduced : List (List ℕ))
+            → IsReducedTo F.ops self.now.cols rank self.now.cols self.now.rows reduced
+            → length kernel.rows + rank ≡ length self.now.rows) }
     {
         let kernel = kernel_rows::<F>(alloc, self.entries(), self.shape())?;
         let rows = self.rows() - kernel.rank as u32;
@@ -49,7 +52,7 @@ fn solve_rows<F: Field>(
     requires few_rows { shape.rows < 2 ^ 32 }
     requires few_cols { shape.cols < 2 ^ 32 }
     requires rhs { IsVector F.ops shape.cols rhs.now }
-    ensures { IfOk result (λ answer. IsAnswer F.ops shape.cols (cut shape.rows shape.cols entries.now) rhs.now answer) }
+    ensures { IfOk result (λ answer. IsAnswer F.ops shape.cols (rows_in shape entries.now) rhs.now answer) }
 {
     let history = reduce_beside::<F>(alloc, entries, shape)?;
     let row = swept::<F>(alloc, &history, shape, rhs)?;
@@ -69,8 +72,12 @@ fn kernel_rows<F: Field>(alloc: Global, entries: &[u8], shape: Shape) -> Result<
     requires few_cols { shape.cols < 2 ^ 32 }
     ensures rank { IfOk result (λ h. h.rank ≤ shape.rows) }
     ensures entries { IfOk result (λ h. IsFilled F.ops (shape.rows - h.rank) shape.rows h.joined.items) }
-    ensures basis { IfOk result (λ h. IsKernelBasis F.ops shape.cols (cut shape.rows shape.cols entries.now) (cut (shape.rows - h.rank) shape.rows h.joined.items)) }
-    ensures count { IfOk result (λ h. (rank : ℕ) (reduced : List (List ℕ)) → IsReducedTo F.ops shape.cols rank shape.cols (cut shape.rows shape.cols entries.now) reduced → rank ≡ h.rank) }
+    ensures basis { IfOk result (λ h.
+        IsKernelBasis F.ops shape.cols (rows_in shape entries.now)
+        (cut (shape.rows - h.rank) shape.rows h.joined.items)) }
+    ensures count { IfOk result (λ h.
+        (rank : ℕ) (reduced : List (List ℕ))
+        → IsReducedTo F.ops shape.cols rank shape.cols (rows_in shape entries.now) reduced → rank ≡ h.rank) }
 {
     let history = reduce_beside::<F>(alloc, entries, shape)?;
     let wide = Shape {
@@ -101,7 +108,10 @@ fn reduce_beside<F: Field>(
     requires few_rows { shape.rows < 2 ^ 32 }
     requires few_cols { shape.cols < 2 ^ 32 }
     ensures long { IfOk result (λ h. length h.joined.items ≡ shape.rows * (shape.cols + shape.rows)) }
-    ensures reduced { IfOk result (λ h. IsReducedTo F.ops (shape.cols + shape.rows) h.rank shape.cols (beside (cut shape.rows shape.cols entries.now) (identity shape.rows)) (cut shape.rows (shape.cols + shape.rows) h.joined.items)) }
+    ensures reduced { IfOk result (λ h.
+        IsReducedTo F.ops (shape.cols + shape.rows) h.rank shape.cols
+        (beside (rows_in shape entries.now) (identity shape.rows))
+        (cut shape.rows (shape.cols + shape.rows) h.joined.items)) }
 {
     let mut joined = beside_identity(alloc, entries, shape)?;
     let wide = Shape {
@@ -122,12 +132,19 @@ fn swept<F: Field>(
     requires long { length history.now.joined.items ≡ shape.rows * (shape.cols + shape.rows) }
     requires few_rows { shape.rows < 2 ^ 32 }
     requires few_cols { shape.cols < 2 ^ 32 }
-    requires matrix { IsMatrix F.ops (shape.cols + shape.rows) (cut shape.rows (shape.cols + shape.rows) history.now.joined.items) }
-    requires reduced { IsReducedBy shape.cols history.now.rank (cut shape.rows (shape.cols + shape.rows) history.now.joined.items) }
+    requires matrix { IsMatrix F.ops (shape.cols + shape.rows)
+        (cut shape.rows (shape.cols + shape.rows) history.now.joined.items) }
+    requires reduced { IsReducedBy shape.cols history.now.rank
+        (cut shape.rows (shape.cols + shape.rows) history.now.joined.items) }
     requires rhs { IsVector F.ops shape.cols rhs.now }
     ensures vector { IfOk result (λ row. IsVector F.ops (shape.cols + shape.rows) row.items) }
-    ensures swept { IfOk result (λ row. IsSwept F.ops (shape.cols + shape.rows) (cut shape.rows (shape.cols + shape.rows) history.now.joined.items) (map F.ops.neg rhs.now ++ replicate shape.rows 0) row.items) }
-    ensures clear { IfOk result (λ row. IsClearAt shape.cols history.now.rank (cut shape.rows (shape.cols + shape.rows) history.now.joined.items) row.items) }
+    ensures swept { IfOk result (λ row.
+        IsSwept F.ops (shape.cols + shape.rows)
+        (cut shape.rows (shape.cols + shape.rows) history.now.joined.items)
+        (map F.ops.neg rhs.now ++ replicate shape.rows 0) row.items) }
+    ensures clear { IfOk result (λ row.
+        IsClearAt shape.cols history.now.rank
+        (cut shape.rows (shape.cols + shape.rows) history.now.joined.items) row.items) }
 {
     let wide = Shape {
         rows: shape.rows,

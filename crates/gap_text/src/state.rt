@@ -1,6 +1,7 @@
 ghost use Rattle.std.specs.Prelude.{◌≡◌, ◌+◌, ◌≤◌, ◌^◌, ◌++◌, map, OnOk, IfErr, Ok};
 ghost use Rattle.gap_text.specs.Nest.{view};
-ghost use Rattle.gap_text.specs.Reading.{at, RangeClose, takes_value, takes_close, put, filled, counted, step, refused, shape_of, start, value_at_end};
+ghost use Rattle.gap_text.specs.Reading.{at, RangeClose, takes_value, takes_close, put, filled, counted};
+ghost use Rattle.gap_text.specs.Reading.{step, refused, shape_of, start, value_at_end};
 ghost use Rattle.gap_text.specs.Tokens.{Open, Close, Comma, Dots, Semicolon, Number};
 ghost use Rattle.gap_text.specs.States.{Gives, Takes, phase_of, levels_of, state_of};
 
@@ -109,7 +110,8 @@ impl State {
 
     /// Makes the value an item of the innermost list, or the value of the text.
     fn put(&mut self, nest: Nest) -> Result<(), TextFault>
-        ensures { Takes (Ok (put (view nest) (levels_of self.old.open_lists.items) self.old.made)) (state_of self.new) result }
+        ensures { Takes (Ok (put (view nest) (levels_of self.old.open_lists.items) self.old.made)) (state_of self.new)
+            result }
     {
         match self.open_lists.pop() {
             None => {
@@ -237,7 +239,10 @@ impl State {
     fn fill(&mut self, place: u32, first: u32, count: u32) -> Result<(), TextFault>
         requires numbers { first + count ≤ 2 ^ 32 }
         requires few { self.old.made + count ≤ 1000000 }
-        ensures { Takes (Ok (at RangeClose (filled (counted place first count) (levels_of self.old.open_lists.items)) (self.old.made + count))) (state_of self.new) result }
+        ensures { Takes
+            (Ok
+            (at RangeClose (filled (counted place first count) (levels_of self.old.open_lists.items))
+            (self.old.made + count))) (state_of self.new) result }
     {
         self.phase = Phase::RangeClose;
         self.made += count;

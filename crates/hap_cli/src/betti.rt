@@ -41,7 +41,8 @@ pub fn answer_betti<L: Ledger>(
     Ok(Answer::Betti(numbers))
 }
 
-// The Betti numbers of the order complex of the space, or how the run ends where it is not regular or has too many chains.
+// The Betti numbers of the order complex of the space, or how the run ends where it is not regular or has too many
+// chains.
 fn regular_betti<L: Ledger>(
     alloc: Global,
     space: &Space,
@@ -49,7 +50,8 @@ fn regular_betti<L: Ledger>(
     steps: &mut Steps<L>,
 ) -> Result<Betti, Outcome>
     requires { is_modulus modulus ≡ true }
-    ensures numbers { GivesIf (only_few (only_regular (Ok space.now))) space.now (AreBetti (field_of modulus) space.now) result }
+    ensures numbers { GivesIf (only_few (only_regular (Ok space.now))) space.now (AreBetti (field_of modulus) space.now)
+        result }
     ensures steps { steps.new ≤ steps.old + entries_of (only_few (only_regular (Ok space.now))) }
 {
     let regular = regular_space(alloc, space)?;

@@ -8,7 +8,8 @@ ghost use Rattle.hap_words.specs.Asked.{make, make_of};
 ghost use Rattle.hap_words.specs.Ranges.{is_in_range};
 ghost use Rattle.order_complex.specs.Numbers.{AreBetti};
 ghost use Rattle.hap_inputs.specs.Spaces.{only_few};
-ghost use Rattle.hap_cli.specs.Answers.{torus_text, cells_text, chains_text, betti_text, summary_text, chain_numbers, Gives, GivesIf, IsSummary};
+ghost use Rattle.hap_cli.specs.Answers.{torus_text, cells_text, chains_text, betti_text, summary_text};
+ghost use Rattle.hap_cli.specs.Answers.{chain_numbers, Gives, GivesIf, IsSummary};
 ghost use Rattle.hap_cli.specs.Counting.{Counts, entries_of};
 
 use crate::answer::Answer;
@@ -99,7 +100,8 @@ fn chains_and_betti<L: Ledger>(
     steps: &mut Steps<L>,
 ) -> Result<(ChainNumbers, Betti), Outcome>
     requires { is_modulus modulus ≡ true }
-    ensures numbers { GivesIf (only_few (Ok space.now)) space.now (λ told. (told.0 ≡ chain_numbers space.now) × AreBetti (field_of modulus) space.now told.1) result }
+    ensures numbers { GivesIf (only_few (Ok space.now)) space.now
+        (λ told. (told.0 ≡ chain_numbers space.now) × AreBetti (field_of modulus) space.now told.1) result }
     ensures steps { steps.new ≤ steps.old + entries_of (only_few (Ok space.now)) }
 {
     let chains = Chains::new(alloc, space, MOST_CHAINS)?;
@@ -139,7 +141,8 @@ fn write_torus<K: Sink>(out: &mut K, size: u32, space: &Space) -> Result<(), Fai
 
 // Writes how many chains there are, and their Betti numbers.
 fn write_homology<K: Sink>(out: &mut K, chains: ChainNumbers, numbers: &Betti) -> Result<(), Failed>
-    ensures bytes { Writes (K.written out.old) (K.written out.new) (chains_text chains ++ betti_text numbers.now) result }
+    ensures bytes { Writes (K.written out.old) (K.written out.new) (chains_text chains ++ betti_text numbers.now)
+        result }
     ensures cause { HasCause (K.faults out.old) (K.faults out.new) result }
 {
     write_chains(out, chains)?;

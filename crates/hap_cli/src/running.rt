@@ -55,8 +55,8 @@ pub fn run<S: Source, K: Sink, E: Sink, L: Ledger>(
     ensures usage { IsNone (asked_by (map string_bytes words.now)) → (result ≡ 2) ⊎ (result ≡ 9) }
     ensures untouched { reads_input (asked_by (map string_bytes words.now)) ≡ false → source.new ≡ source.old }
 
-    // Where nothing failed outside, the status is that of the refusal, else 6 exactly where the search ends at a spot, else
-    // 0; or memory was wanting.
+    // Where nothing failed outside, the status is that of the refusal, else 6 exactly where the search ends at a
+    // spot, else 0; or memory was wanting.
     ensures exact { IfSome (asked_by (map string_bytes words.now)) (λ asked.
         IfSome (bytes_under (told_store asked (S.store source.old)) (input_name asked)) (λ bytes.
         (Rose (S.faults source.old) (S.faults source.new) → ⊥)
@@ -69,8 +69,8 @@ pub fn run<S: Source, K: Sink, E: Sink, L: Ledger>(
     ensures write { result ≡ 8 → Rose (K.faults out.old) (K.faults out.new) }
     ensures write_told { K.faults out.old < K.faults out.new → result ≡ 8 }
 
-    // What is left: an input that was read is read to its end, and no byte is written but with status 0, 6 and 8, and none
-    // with 6 of `cover`.
+    // What is left: an input that was read is read to its end, and no byte is written but with status 0, 6 and 8, and
+    // none with 6 of `cover`.
     ensures end { (result ≡ 0) ⊎ (result ≡ 6) → reads_input (asked_by (map string_bytes words.now)) ≡ true
         → IsAtEnd (S.left source.new) }
     ensures nothing { result ≢ 0 → result ≢ 6 → result ≢ 8 → out.new ≡ out.old }

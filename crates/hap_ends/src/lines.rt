@@ -17,7 +17,8 @@ pub fn write_count<'a, E: Sink>(
     count: u64,
     after: &'a [u8],
 ) -> Result<(), Failed>
-    ensures bytes { Writes (E.written err.old) (E.written err.new) (refusals.count_line before.now count after.now) result }
+    ensures bytes { Writes (E.written err.old) (E.written err.new) (refusals.count_line before.now count after.now)
+        result }
     ensures cause { HasCause (E.faults err.old) (E.faults err.new) result }
 {
     write_pieces(

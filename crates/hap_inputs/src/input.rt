@@ -1,10 +1,12 @@
 // The bytes of the input of a command.
-ghost use Rattle.std.specs.Prelude.{◌≡◌, ◌<◌, ◌≤◌, true, false, List, ℕ, length, option_map, string_bytes, IfOk, IfErr, OnOk, IsErrOf};
+ghost use Rattle.std.specs.Prelude.{◌≡◌, ◌<◌, ◌≤◌, true, false, List, ℕ, length, option_map, string_bytes};
+ghost use Rattle.std.specs.Prelude.{IfOk, IfErr, OnOk, IsErrOf};
 ghost use Rattle.std.specs.Io.KnownBytes.{IsAtEnd};
 ghost use Rattle.hap_outside.specs.Causes.{Rose};
 ghost use Rattle.hap_outside.specs.Stores.{Store};
 ghost use Rattle.hap_words.specs.Asked.{asked_of};
-ghost use Rattle.hap_inputs.specs.Input.{input_name, limit_of as most_of, has_input, IsRead, IsUnread, IsReadUnder, IsUnreadUnder};
+ghost use Rattle.hap_inputs.specs.Input.{input_name, limit_of as most_of, has_input, IsRead, IsUnread};
+ghost use Rattle.hap_inputs.specs.Input.{IsReadUnder, IsUnreadUnder};
 
 use hap_ends::{Outcome, Refusal};
 use hap_outside::{Failed, ReadAll, Source, read_all};
@@ -20,7 +22,9 @@ pub fn read_input<S: Source>(
 ) -> Result<Vec<u8>, Outcome>
     requires { S.begun source.old ≡ false }
     ensures bytes { IfOk result (λ bytes. IsRead (asked_of command.now) (S.store source.old) bytes.items) }
-    ensures unread { IfErr result (IsUnread (asked_of command.now) (S.store source.old) (Rose (S.faults source.old) (S.faults source.new))) }
+    ensures unread { IfErr result
+        (IsUnread (asked_of command.now) (S.store source.old)
+        (Rose (S.faults source.old) (S.faults source.new))) }
     ensures told { S.faults source.old < S.faults source.new → IsErrOf result Outcome.ReadFault }
     ensures end { OnOk result (has_input (asked_of command.now) ≡ true → IsAtEnd (S.left source.new)) }
     ensures untouched { has_input (asked_of command.now) ≡ false → source.new ≡ source.old }
@@ -40,8 +44,11 @@ fn read_named<S: Source>(
 ) -> Result<Vec<u8>, Outcome>
     requires begun { S.begun source.old ≡ false }
     requires limit { limit ≤ 67108864 }
-    ensures bytes { IfOk result (λ bytes. IsReadUnder (option_map (λ s. s.now) name.entry) limit (S.store source.old) bytes.items) }
-    ensures unread { IfErr result (IsUnreadUnder (option_map (λ s. s.now) name.entry) limit (S.store source.old) (Rose (S.faults source.old) (S.faults source.new))) }
+    ensures bytes { IfOk result
+        (λ bytes. IsReadUnder (option_map (λ s. s.now) name.entry) limit (S.store source.old) bytes.items) }
+    ensures unread { IfErr result
+        (IsUnreadUnder (option_map (λ s. s.now) name.entry) limit (S.store source.old)
+        (Rose (S.faults source.old) (S.faults source.new))) }
     ensures told { S.faults source.old < S.faults source.new → IsErrOf result Outcome.ReadFault }
     ensures end { OnOk result (IsAtEnd (S.left source.new)) }
 {

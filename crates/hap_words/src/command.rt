@@ -77,8 +77,9 @@ pub struct CoversOptions {
     pub from: Spot,
 }
 
-/// The options of `cover`: the most sheets and the number of steps as of `covers`; the number of the cover in the listing,
-/// 1 to 10^9; the component of the space that it covers, 1 to 60,000; the modulus, where Betti numbers are asked for.
+/// The options of `cover`: the most sheets and the number of steps as of `covers`; the number of the cover in the
+/// listing, 1 to 10^9; the component of the space that it covers, 1 to 60,000; the modulus, where Betti numbers are
+/// asked for.
 #[derive(Drop)]
 pub struct CoverOptions {
     pub input: Input,
@@ -99,8 +100,8 @@ pub struct ReportOptions {
     pub from: Spot,
 }
 
-/// The options of `make`: how many cubes the 3-torus has in each direction, 2 to 19; the modulus, where Betti numbers are
-/// asked for.
+/// The options of `make`: how many cubes the 3-torus has in each direction, 2 to 19; the modulus, where Betti numbers
+/// are asked for.
 #[derive(Drop)]
 pub struct MakeOptions {
     pub size: u32,

@@ -6,7 +6,9 @@
 #![tactic(auto)]
 
 ghost use Rattle.linear_laws.specs.ZeroRows.{ZeroRowsLaws};
-ghost use Rattle.linear_laws.specs.Laws.{MoreAreDependent, BasesAreAsLong, RowsHaveABasis, RankIsDimension, BasisByRanks, TrianglesAreIndependent, HistoryGivesKernel, KernelsComplete, IndependentSpan, TrianglesCertify, CombinationLaws};
+ghost use Rattle.linear_laws.specs.Laws.{MoreAreDependent, BasesAreAsLong, RowsHaveABasis, RankIsDimension};
+ghost use Rattle.linear_laws.specs.Laws.{BasisByRanks, TrianglesAreIndependent, HistoryGivesKernel};
+ghost use Rattle.linear_laws.specs.Laws.{KernelsComplete, IndependentSpan, TrianglesCertify, CombinationLaws};
 
 use small_field::Field;
 

@@ -1,4 +1,5 @@
-ghost use Rattle.std.specs.Prelude.{◌≡◌, ℕ, ◌+◌, ◌≤◌, ◌<◌, [], length, cond, slice_index, slice_index_or, All, IfOk, OnOk, OnErr};
+ghost use Rattle.std.specs.Prelude.{◌≡◌, ℕ, ◌+◌, ◌≤◌, ◌<◌, [], length, cond, slice_index, slice_index_or};
+ghost use Rattle.std.specs.Prelude.{All, IfOk, OnOk, OnErr};
 ghost use Rattle.number_lists.specs.Words.{holds};
 ghost use Rattle.number_lists.specs.Found.{inserted, inserted_all};
 
@@ -95,7 +96,8 @@ impl FoundNumbers {
     /// Writes the value at each number that was found, where places are counted from 1.
     pub fn write(&self, value: u32, places: &mut [u32])
         requires { self.now.most ≤ length places.old }
-        ensures { (k : ℕ) → k < length places.old → slice_index places.new k ≡ cond (holds self.now.found (k + 1)) value (slice_index places.old k) }
+        ensures { (k : ℕ) → k < length places.old
+            → slice_index places.new k ≡ cond (holds self.now.found (k + 1)) value (slice_index places.old k) }
     {
         for number in &self.numbers {
             places[*number as usize - 1] = value;

@@ -1,7 +1,8 @@
 // All chains of the order complex of a space.
 ghost use Rattle.std.specs.Prelude.{◌≡◌, ◌≤◌, ◌+◌, ◌-◌, [], length, reverse, slice_index_or, IfOk, IfErr, OnOk};
 ghost use Rattle.order_complex.specs.Chains.{chains_of, chain_count};
-ghost use Rattle.order_complex.specs.Complex.{chain_layers, complex_of, last_of, negative_in, position_of, stands_odd, stored_cofaces, stored_facets, HasId, IsRefused};
+ghost use Rattle.order_complex.specs.Complex.{chain_layers, complex_of, last_of, negative_in, position_of};
+ghost use Rattle.order_complex.specs.Complex.{stands_odd, stored_cofaces, stored_facets, HasId, IsRefused};
 
 use crate::coface_lists::CofaceLists;
 use crate::counts::ChainCounts;
@@ -15,10 +16,10 @@ use face_poset::{Cell, Graded, Signed, Space};
 use std::alloc::{AllocError, Global};
 use std::marker::Model;
 
-/// All chains of the order complex of a space, which contracts see as the space. Chains of each degree, from 0 to 3, are
-/// numbered from 1 in lexicographic order of their ids; a chain of degree k is a list of k + 1 ids of cells, each a face
-/// of the next. As a graded set, the facets of a chain are the chains with one entry left out, and the facet with the entry
-/// at place i, counted from 0, left out has the sign 1 for even i and -1 for odd i.
+/// All chains of the order complex of a space, which contracts see as the space. Chains of each degree, from 0 to 3,
+/// are numbered from 1 in lexicographic order of their ids; a chain of degree k is a list of k + 1 ids of cells, each
+/// a face of the next. As a graded set, the facets of a chain are the chains with one entry left out, and the facet
+/// with the entry at place i, counted from 0, left out has the sign 1 for even i and -1 for odd i.
 #[derive(Drop)]
 pub struct Chains<'a> {
     space: &'a Space,
@@ -38,7 +39,10 @@ impl<'a> Model for Chains<'a> {
     ghost view = { λ s. s.space.now };
 
     ghost invariant = { λ s.
-        (s.chains ≡ chain_layers s.space.now) × (s.facets ≡ stored_facets s.space.now) × (s.cofaces ≡ stored_cofaces s.space.now) × (chain_count s.space.now ≤ 4294967295) };
+        (s.chains ≡ chain_layers s.space.now)
+        × (s.facets ≡ stored_facets s.space.now)
+        × (s.cofaces ≡ stored_cofaces s.space.now)
+        × (chain_count s.space.now ≤ 4294967295) };
 }
 
 impl<'a> Chains<'a> {

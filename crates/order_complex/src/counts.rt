@@ -26,8 +26,8 @@ impl Model for ChainCounts {
 }
 
 impl ChainCounts {
-    /// Counts the chains of a space, without listing them, in memory for some numbers for each cell and the faces of one
-    /// cell. A refusal comes where there are more than the limit, and carries their number.
+    /// Counts the chains of a space, without listing them, in memory for some numbers for each cell and the faces of
+    /// one cell. A refusal comes where there are more than the limit, and carries their number.
     pub fn new(alloc: Global, space: &Space, limit: u32) -> Result<ChainCounts, ChainFault>
         ensures counts { IfOk result (λ counts. counts ≡ chain_counts space.now) }
         ensures within { OnOk result (chain_count space.now ≤ limit) }
@@ -73,7 +73,9 @@ struct Tally {
 
 /// Counts the chains that end in any cell.
 fn tally_space(alloc: Global, space: &Space) -> Result<Tally, AllocError>
-    ensures tally { IfOk result (λ t. IsTally space.now (cell_count space.now) t.pairs.items t.triples.items t.edges t.triangles t.tetrahedra) }
+    ensures tally { IfOk result (λ t.
+        IsTally space.now (cell_count space.now) t.pairs.items t.triples.items t.edges t.triangles
+        t.tetrahedra) }
     ensures few { cell_count space.now ≤ 60000 }
 {
     let _vertices = space.cells(0);
@@ -91,7 +93,8 @@ fn tally_space(alloc: Global, space: &Space) -> Result<Tally, AllocError>
     Ok(tally)
 }
 
-/// Counts the chains that end in a cell of a dimension, where those that end in cells of smaller dimensions are counted.
+/// Counts the chains that end in a cell of a dimension, where those that end in cells of smaller dimensions are
+/// counted.
 fn tally_dimension(
     alloc: Global,
     space: &Space,
@@ -100,8 +103,11 @@ fn tally_dimension(
 ) -> Result<(), AllocError>
     requires dim { dim ≤ 3 }
     requires few { cell_count space.now ≤ 60000 }
-    requires before { IsTally space.now (cells_before space.now dim) tally.old.pairs.items tally.old.triples.items tally.old.edges tally.old.triangles tally.old.tetrahedra }
-    ensures { OnOk result (IsTally space.now (cells_before space.now dim + count space.now dim) tally.new.pairs.items tally.new.triples.items tally.new.edges tally.new.triangles tally.new.tetrahedra) }
+    requires before { IsTally space.now (cells_before space.now dim) tally.old.pairs.items tally.old.triples.items
+        tally.old.edges tally.old.triangles tally.old.tetrahedra }
+    ensures { OnOk result
+        (IsTally space.now (cells_before space.now dim + count space.now dim) tally.new.pairs.items
+        tally.new.triples.items tally.new.edges tally.new.triangles tally.new.tetrahedra) }
 {
     for index in 0..space.cells(dim) {
         tally_cell(alloc, space, dim, index + 1, tally)?;
@@ -121,8 +127,11 @@ fn tally_cell(
     requires first { 1 ≤ number }
     requires last { number ≤ count space.now dim }
     requires few { cell_count space.now ≤ 60000 }
-    requires before { IsTally space.now (cells_before space.now dim + number - 1) tally.old.pairs.items tally.old.triples.items tally.old.edges tally.old.triangles tally.old.tetrahedra }
-    ensures { OnOk result (IsTally space.now (cells_before space.now dim + number) tally.new.pairs.items tally.new.triples.items tally.new.edges tally.new.triangles tally.new.tetrahedra) }
+    requires before { IsTally space.now (cells_before space.now dim + number - 1) tally.old.pairs.items
+        tally.old.triples.items tally.old.edges tally.old.triangles tally.old.tetrahedra }
+    ensures { OnOk result
+        (IsTally space.now (cells_before space.now dim + number) tally.new.pairs.items
+        tally.new.triples.items tally.new.edges tally.new.triangles tally.new.tetrahedra) }
 {
     let faces = face_ids(alloc, space, dim, number)?;
     let pairs = faces.len() as u64;

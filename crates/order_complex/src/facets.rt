@@ -1,5 +1,6 @@
 // The facets of chains, by their numbers.
-ghost use Rattle.std.specs.Prelude.{◌≡◌, ◌≤◌, ◌<◌, ◌-◌, ◌++◌, [], Contains, map, length, slice_index, slice_index_or, IfOk, OnOk};
+ghost use Rattle.std.specs.Prelude.{◌≡◌, ◌≤◌, ◌<◌, ◌-◌, ◌++◌, [], Contains, map, length, slice_index};
+ghost use Rattle.std.specs.Prelude.{slice_index_or, IfOk, OnOk};
 ghost use Rattle.std.specs.List.Sorted.{IsStrictlyIncreasing};
 ghost use Rattle.order_complex.specs.Chains.{chains_of, chain_count};
 ghost use Rattle.order_complex.specs.Complex.{chain_layers, facet_lists, facet_numbers, stored_facets};
@@ -28,8 +29,8 @@ impl Model for FacetLists {
 }
 
 impl FacetLists {
-    /// The facets by the listing of the chains: a chain comes of the one without its last cell, and its other facets come
-    /// of the facets of that chain.
+    /// The facets by the listing of the chains: a chain comes of the one without its last cell, and its other facets
+    /// come of the facets of that chain.
     pub fn new(
         alloc: Global,
         uppers: &Uppers<'_>,
@@ -101,7 +102,11 @@ fn push_triangle_facets(
     requires starts { starts.now ≡ first_places (uppers_of uppers.now) (chains_of uppers.now 0) }
     requires few { chain_count uppers.now ≤ 4294967295 }
     requires index { index < length edges.now }
-    ensures { OnOk result (facets.new.items ≡ facets.old.items ++ map (facet_numbers (chains_of uppers.now 1)) (extensions (uppers_of uppers.now) (slice_index_or edges.now index []))) }
+    ensures { OnOk result
+        (facets.new.items
+        ≡ facets.old.items
+        ++ map (facet_numbers (chains_of uppers.now 1))
+        (extensions (uppers_of uppers.now) (slice_index_or edges.now index []))) }
 {
     let [first, second] = edges[index];
     let before = uppers.above(first);
@@ -151,7 +156,11 @@ fn push_tetrahedron_facets(
     requires starts { starts.now ≡ first_places (uppers_of uppers.now) (chains_of uppers.now 1) }
     requires few { chain_count uppers.now ≤ 4294967295 }
     requires index { index < length triangles.now }
-    ensures { OnOk result (facets.new.items ≡ facets.old.items ++ map (facet_numbers (chains_of uppers.now 2)) (extensions (uppers_of uppers.now) (slice_index_or triangles.now index []))) }
+    ensures { OnOk result
+        (facets.new.items
+        ≡ facets.old.items
+        ++ map (facet_numbers (chains_of uppers.now 2))
+        (extensions (uppers_of uppers.now) (slice_index_or triangles.now index []))) }
 {
     let [_first, second, third] = triangles[index];
     let [front, skipped, back] = lower[index];

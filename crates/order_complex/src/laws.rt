@@ -1,5 +1,7 @@
 // Laws of the order complex, each the contract of a function with an empty body.
-ghost use Rattle.order_complex.specs.Laws.{FacesAreBelow, BoundaryAlternates, BoundariesAreCycles, ChainsAreOrdered, ChainsAreSequences, CoboundariesAreClosed, CoboundaryIsAdjoint, BettiIsOneNumber, BettiByRanks};
+ghost use Rattle.order_complex.specs.Laws.{FacesAreBelow, BoundaryAlternates, BoundariesAreCycles};
+ghost use Rattle.order_complex.specs.Laws.{ChainsAreOrdered, ChainsAreSequences, CoboundariesAreClosed};
+ghost use Rattle.order_complex.specs.Laws.{CoboundaryIsAdjoint, BettiIsOneNumber, BettiByRanks};
 
 use small_field::Field;
 
@@ -8,7 +10,8 @@ pub fn faces_are_below()
     ensures { FacesAreBelow }
 {}
 
-/// The chains of a degree are exactly the sequences of cells, each a face of the next, with one cell more than the degree.
+/// The chains of a degree are exactly the sequences of cells, each a face of the next, with one cell more than the
+/// degree.
 pub fn chains_are_sequences()
     ensures { ChainsAreSequences }
 {}

@@ -130,7 +130,10 @@ fn push_edges(
     uppers: &[u32],
 ) -> Result<(), AllocError>
     requires { index < length points.now }
-    ensures { OnOk result (edges.new.items ≡ edges.old.items ++ map (λ upper. slice_index_or points.now index [] ++ upper ∷ []) uppers.now) }
+    ensures { OnOk result
+        (edges.new.items
+        ≡ edges.old.items
+        ++ map (λ upper. slice_index_or points.now index [] ++ upper ∷ []) uppers.now) }
 {
     let [first] = points[index];
     for upper in uppers {
@@ -165,7 +168,10 @@ fn push_triangles(
     uppers: &[u32],
 ) -> Result<(), AllocError>
     requires { index < length edges.now }
-    ensures { OnOk result (triangles.new.items ≡ triangles.old.items ++ map (λ upper. slice_index_or edges.now index [] ++ upper ∷ []) uppers.now) }
+    ensures { OnOk result
+        (triangles.new.items
+        ≡ triangles.old.items
+        ++ map (λ upper. slice_index_or edges.now index [] ++ upper ∷ []) uppers.now) }
 {
     let [first, second] = edges[index];
     for upper in uppers {
@@ -205,7 +211,10 @@ fn push_tetrahedra(
     uppers: &[u32],
 ) -> Result<(), AllocError>
     requires { index < length triangles.now }
-    ensures { OnOk result (tetrahedra.new.items ≡ tetrahedra.old.items ++ map (λ upper. slice_index_or triangles.now index [] ++ upper ∷ []) uppers.now) }
+    ensures { OnOk result
+        (tetrahedra.new.items
+        ≡ tetrahedra.old.items
+        ++ map (λ upper. slice_index_or triangles.now index [] ++ upper ∷ []) uppers.now) }
 {
     let [first, second, third] = triangles[index];
     for upper in uppers {

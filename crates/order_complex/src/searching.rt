@@ -11,7 +11,8 @@ pub fn find_chain(chains: &ChainLists, degree: u8, ids: &[u32]) -> Option<usize>
     requires ordered { IsOrdered (slice_index_or chains.now degree []) }
     ensures within { IfSome result (λ place. place < length (slice_index_or chains.now degree [])) }
     ensures found { IfSome result (λ place. slice_index_or (slice_index_or chains.now degree []) place [] ≡ ids.now) }
-    ensures none { IsNone result → (place : ℕ) → place < length (slice_index_or chains.now degree []) → slice_index_or (slice_index_or chains.now degree []) place [] ≢ ids.now }
+    ensures none { IsNone result → (place : ℕ) → place < length (slice_index_or chains.now degree [])
+        → slice_index_or (slice_index_or chains.now degree []) place [] ≢ ids.now }
 {
     let mut low = 0;
     let mut high = chains.len(degree);

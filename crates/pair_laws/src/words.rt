@@ -1,4 +1,5 @@
-ghost use Rattle.pair_laws.specs.Letters.{Undo, ReducedIs, StaysReduced, ReducedAppend, ReducedInverted, AfterIs, ForcedUnique, FollowReduced};
+ghost use Rattle.pair_laws.specs.Letters.{Undo, ReducedIs, StaysReduced, ReducedAppend, ReducedInverted};
+ghost use Rattle.pair_laws.specs.Letters.{AfterIs, ForcedUnique, FollowReduced};
 
 /// A letter that is put before a reduced word, and then the letter that undoes it, leave the word.
 pub fn letters_undo()

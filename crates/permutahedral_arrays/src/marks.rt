@@ -81,7 +81,8 @@ pub(crate) fn list_marks(
 pub(crate) fn steps(grid: &Grid) -> Result<(u32, u32), ArrayFault>
     ensures row { IfOk result (λ steps. steps.1 ≡ grid.now.columns + 2) }
     ensures slab { IfOk result (λ steps. steps.0 ≡ (grid.now.rows + 2) * (grid.now.columns + 2)) }
-    ensures few { IfOk result (λ steps. (grid.now.planes + 2) * ((grid.now.rows + 2) * (grid.now.columns + 2)) ≤ 2 ^ 29) }
+    ensures few { IfOk result
+        (λ steps. (grid.now.planes + 2) * ((grid.now.rows + 2) * (grid.now.columns + 2)) ≤ 2 ^ 29) }
     ensures small_row { IfOk result (λ steps. steps.1 ≤ 2 ^ 29) }
     ensures small_slab { IfOk result (λ steps. steps.0 ≤ 2 ^ 29) }
     ensures fault { IfErr result (λ fault. fault ≡ ArrayFault.Memory) }

@@ -15,8 +15,8 @@ use std::alloc::{AllocError, Global};
 use std::sync::ledger::Ledger;
 use step_count::Steps;
 
-/// The Betti numbers of a space, with coefficients in the field with `modulus` elements. A refusal comes where there are
-/// more chains than the limit, carries their number, and takes no step.
+/// The Betti numbers of a space, with coefficients in the field with `modulus` elements. A refusal comes where there
+/// are more chains than the limit, carries their number, and takes no step.
 pub fn betti_of<L: Ledger>(
     alloc: Global,
     space: &Space,
@@ -68,7 +68,9 @@ struct BettiWork<'a, 'b, L: Ledger> {
 impl<'a, 'b, L: Ledger> OverField for BettiWork<'a, 'b, L> {
     type Answer = Result<Betti, AllocError>;
 
-    ghost gives = { λ k old new answer. GivesBetti k old.chains.now old.steps.now new.steps.now answer × (new.steps.ghost_name ≡ old.steps.ghost_name) };
+    ghost gives = { λ k old new answer.
+        GivesBetti k old.chains.now old.steps.now new.steps.now answer
+        × (new.steps.ghost_name ≡ old.steps.ghost_name) };
 
     fn over<F: Field>(&mut self) -> Result<Betti, AllocError> {
         betti_numbers::<F, L>(self.alloc, self.chains, self.steps)

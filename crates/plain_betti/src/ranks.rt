@@ -21,7 +21,8 @@ pub fn coboundary_rank<F: Field, L: Ledger>(
 ) -> Result<u32, AllocError>
     requires degree { degree ≤ 2 }
     ensures rank { IfOk result (IsRank F.ops (chains_of chains.now degree) (chains_of chains.now (degree + 1))) }
-    ensures steps { steps.new ≤ steps.old + length (chains_of chains.now degree) * length (chains_of chains.now (degree + 1)) }
+    ensures steps { steps.new
+        ≤ steps.old + length (chains_of chains.now degree) * length (chains_of chains.now (degree + 1)) }
 {
     let mut matrix = coboundary_matrix::<F>(alloc, chains, degree)?;
     matrix.reduce(steps);
@@ -37,7 +38,8 @@ fn coboundary_matrix<F: Field>(
 ) -> Result<Matrix<F>, AllocError>
     requires degree { degree ≤ 2 }
     ensures cols { IfOk result (λ m. m.cols ≡ length (chains_of chains.now (degree + 1))) }
-    ensures rows { IfOk result (λ m. m.rows ≡ rows_on F.ops (chains_of chains.now degree) (chains_of chains.now (degree + 1))) }
+    ensures rows { IfOk result
+        (λ m. m.rows ≡ rows_on F.ops (chains_of chains.now degree) (chains_of chains.now (degree + 1))) }
 {
     chains_are_ordered();
     let rows = chains.len(degree);
@@ -64,7 +66,9 @@ fn put_coboundary<F: Field>(
     requires cols { matrix.old.cols ≡ length (chains_of chains.now (degree + 1)) }
     requires row { row < length matrix.old.rows }
     ensures cols { matrix.new.cols ≡ matrix.old.cols }
-    ensures rows { matrix.new.rows ≡ slice_set matrix.old.rows row (coboundary_on F.ops (chains_of chains.now degree) (chains_of chains.now (degree + 1)) x.now) }
+    ensures rows { matrix.new.rows
+        ≡ slice_set matrix.old.rows row
+        (coboundary_on F.ops (chains_of chains.now degree) (chains_of chains.now (degree + 1)) x.now) }
 {
     for col in 0..matrix.cols() {
         let value = chains.coboundary_at(degree, x, col + 1);

@@ -52,7 +52,8 @@ fn reduced_rank<F: Field, L: Ledger>(
 ) -> Result<u32, AllocError>
     requires { dim ≤ 3 }
     ensures rank { IfOk result (HasRank F.ops reduced.now dim) }
-    ensures steps { steps.new ≤ steps.old + criticals (kinds_at reduced.now dim) * criticals (kinds_at reduced.now (dim + 1)) }
+    ensures steps { steps.new
+        ≤ steps.old + criticals (kinds_at reduced.now dim) * criticals (kinds_at reduced.now (dim + 1)) }
 {
     let mut matrix = reduced.filled_rows(dim).copy(alloc)?;
     matrix.reduce(steps);

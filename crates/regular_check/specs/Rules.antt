@@ -22,7 +22,8 @@
 --   first_fault space                 the first fault of a space
 --   IsRegular space                   no rule is broken
 --   IsFault first fault               the fault is want of memory, or the first one
-use Rattle.std.specs.Prelude.{◌≡◌, ⊤, ℕ, ◌+◌, ◌&&◌, ◌==◌, List, [], ◌∷◌, ◌++◌, length, filter, find, slice_index, Bool, not, ℤ, pos, ◌+ℤ◌, ◌-ℤ◌, option_map, Option, Some, None}
+--   Finds rules result                a result: no rule is broken, or the fault is the first one's, or want of memory
+use Rattle.std.specs.Prelude.{◌≡◌, ⊤, ℕ, ◌+◌, ◌&&◌, ◌==◌, List, [], ◌∷◌, ◌++◌, length, filter, find, slice_index, Bool, not, ℤ, pos, ◌+ℤ◌, ◌-ℤ◌, option_map, Option, Some, None, Result, MatchResult}
 use Rattle.std.specs.List.{list_all, list_any, flat_map}
 use Rattle.face_poset.specs.declared.cells.Cell.{Cell}
 use Rattle.number_lists.specs.Words.{upto, holds}
@@ -99,3 +100,6 @@ IsFault first (NotCycle cell) = first ≡ Some (NotCycle cell)
 IsFault first (EdgeNotTwice cell) = first ≡ Some (EdgeNotTwice cell)
 IsFault first (Apart cell) = first ≡ Some (Apart cell)
 IsFault first (NotSphere cell value) = first ≡ Some (NotSphere cell value)
+
+abbrev pub Finds : {A : Type 0} → List Rule → Result A RegularFault → Type 0
+Finds rules result = MatchResult result (λ _. fault_in rules ≡ None) (IsFault (fault_in rules))

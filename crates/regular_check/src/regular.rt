@@ -30,7 +30,9 @@ impl<'a> Model for Regular<'a> {
 
     ghost view = { λ r. r.space.now };
 
-    ghost invariant = { λ r. IsRegular r.space.now × AreCycles r.space.now (count r.space.now 2) r.cycles.ends.items r.cycles.steps.items };
+    ghost invariant = { λ r.
+        IsRegular r.space.now
+        × AreCycles r.space.now (count r.space.now 2) r.cycles.ends.items r.cycles.steps.items };
 }
 
 impl<'a> Regular<'a> {

@@ -1,9 +1,9 @@
 // The rules of a regular space, cell by cell.
-ghost use Rattle.std.specs.Prelude.{◌≡◌, ◌≢◌, ◌≤◌, ◌+◌, length, None, IfErr, OnOk, MatchResult, pos, ◌+ℤ◌, ◌-ℤ◌};
+ghost use Rattle.std.specs.Prelude.{◌≡◌, ◌≢◌, ◌≤◌, ◌+◌, length, IfErr, OnOk, pos, ◌+ℤ◌, ◌-ℤ◌};
 ghost use Rattle.std.specs.List.{flat_map};
 ghost use Rattle.number_lists.specs.Words.{upto};
 ghost use Rattle.face_poset.specs.Poset.{count};
-ghost use Rattle.regular_check.specs.Rules.{edge_rules, disk_rules, solid_rules, fault_in, IsFault};
+ghost use Rattle.regular_check.specs.Rules.{edge_rules, disk_rules, solid_rules, Finds};
 ghost use Rattle.regular_check.specs.Tally.{IsBlank};
 
 use crate::boundary::{count_edges, count_vertices};
@@ -15,7 +15,7 @@ use number_lists::FoundNumbers;
 
 /// Finds the first edge without two ends.
 pub(crate) fn check_edges(space: &Space) -> Result<(), RegularFault>
-    ensures { MatchResult result (λ _. fault_in (flat_map (edge_rules space.now) (upto (count space.now 1))) ≡ None) (IsFault (fault_in (flat_map (edge_rules space.now) (upto (count space.now 1))))) }
+    ensures { Finds (flat_map (edge_rules space.now) (upto (count space.now 1))) result }
 {
     for index in 0..space.cells(1) {
         if space.facets(1, index + 1).len() != 2 {
@@ -36,7 +36,7 @@ pub(crate) fn check_disks(
     requires blank { IsBlank tallies.old }
     ensures most { found.new.most ≡ found.old.most }
     ensures blank { OnOk result (IsBlank tallies.new) }
-    ensures fault { MatchResult result (λ _. fault_in (flat_map (disk_rules space.now) (upto (count space.now 2))) ≡ None) (IsFault (fault_in (flat_map (disk_rules space.now) (upto (count space.now 2))))) }
+    ensures fault { Finds (flat_map (disk_rules space.now) (upto (count space.now 2))) result }
 {
     for index in 0..space.cells(2) {
         let shape = shape_of(space, 1, space.facets(2, index + 1), tallies, found)?;
@@ -58,7 +58,7 @@ pub(crate) fn check_solids(
     requires blank { IsBlank tallies.old }
     ensures most { found.new.most ≡ found.old.most }
     ensures blank { OnOk result (IsBlank tallies.new) }
-    ensures fault { MatchResult result (λ _. fault_in (flat_map (solid_rules space.now) (upto (count space.now 3))) ≡ None) (IsFault (fault_in (flat_map (solid_rules space.now) (upto (count space.now 3))))) }
+    ensures fault { Finds (flat_map (solid_rules space.now) (upto (count space.now 3))) result }
 {
     for index in 0..space.cells(3) {
         check_solid(space, index + 1, tallies, found)?;
@@ -81,7 +81,7 @@ fn check_solid(
     requires blank { IsBlank tallies.old }
     ensures most { found.new.most ≡ found.old.most }
     ensures blank { OnOk result (IsBlank tallies.new) }
-    ensures fault { MatchResult result (λ _. fault_in (solid_rules space.now cell) ≡ None) (IsFault (fault_in (solid_rules space.now cell))) }
+    ensures fault { Finds (solid_rules space.now cell) result }
 {
     let disks = space.facets(3, cell);
     let shape = shape_of(space, 2, disks, tallies, found)?;
@@ -100,7 +100,9 @@ fn check_solid(
 /// those of a sphere.
 fn check_sphere(cell: u32, vertices: u32, edges: u32, disks: u32) -> Result<(), RegularFault>
     ensures kept { OnOk result (vertices + disks ≡ edges + 2) }
-    ensures broken { IfErr result (λ fault. (fault ≡ RegularFault.NotSphere cell ((pos vertices -ℤ pos edges) +ℤ pos disks)) × (vertices + disks ≢ edges + 2)) }
+    ensures broken { IfErr result (λ fault.
+        (fault ≡ RegularFault.NotSphere cell ((pos vertices -ℤ pos edges) +ℤ pos disks))
+        × (vertices + disks ≢ edges + 2)) }
 {
     if u64::from(vertices) + u64::from(disks) == u64::from(edges) + 2 {
         Ok(())

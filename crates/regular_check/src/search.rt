@@ -38,7 +38,8 @@ pub(crate) fn shape_of(
     ensures most { found.new.most ≡ found.old.most }
     ensures blank { OnOk result (IsBlank tallies.new) }
     ensures closed { IfOk result (λ shape. shape.is_closed ≡ each_twice space.now dim cells.now) }
-    ensures connected { IfOk result (λ shape. each_twice space.now dim cells.now ≡ true → shape.is_connected ≡ connected space.now dim cells.now) }
+    ensures connected { IfOk result (λ shape.
+        each_twice space.now dim cells.now ≡ true → shape.is_connected ≡ connected space.now dim cells.now) }
 {
     tally_cells(space, dim, cells, tallies);
     let is_closed = are_each_twice(space, dim, cells, tallies);
@@ -93,7 +94,8 @@ fn find_across(
     requires facets { IsCell (length tallies.now) facets.now }
     requires others { AreOthers tallies.now facets.now cell found.old.most }
     ensures most { found.new.most ≡ found.old.most }
-    ensures numbers { OnOk result (found.new.found ≡ inserted_all found.old.found (map (other tallies.now cell) facets.now)) }
+    ensures numbers { OnOk result
+        (found.new.found ≡ inserted_all found.old.found (map (other tallies.now cell) facets.now)) }
 {
     for facet in facets {
         let across = tallies[*facet as usize - 1].sum - u64::from(cell);
@@ -126,7 +128,8 @@ pub(crate) fn insert_facets(
     requires cells { All (λ c. (1 ≤ c) × (c ≤ count space.now dim)) cells.now }
     requires most { count space.now (dim - 1) ≤ found.old.most }
     ensures most { found.new.most ≡ found.old.most }
-    ensures numbers { OnOk result (found.new.found ≡ inserted_all found.old.found (flat_map (facets_of space.now dim) cells.now)) }
+    ensures numbers { OnOk result
+        (found.new.found ≡ inserted_all found.old.found (flat_map (facets_of space.now dim) cells.now)) }
 {
     for cell in cells {
         found.insert_all(space.facets(dim, *cell))?;

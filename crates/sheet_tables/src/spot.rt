@@ -1,4 +1,5 @@
-ghost use Rattle.std.specs.Prelude.{◌≡◌, ◌≢◌, ◌≤◌, ◌+◌, ◌↔◌, [], length, take, drop, IsTrue, IfOk, IfErr, Some, None, IfSome, option_map, ◌<◌};
+ghost use Rattle.std.specs.Prelude.{◌≡◌, ◌≢◌, ◌≤◌, ◌+◌, ◌↔◌, [], length, take, drop, IsTrue, IfOk, IfErr};
+ghost use Rattle.std.specs.Prelude.{Some, None, IfSome, option_map, ◌<◌};
 ghost use Rattle.sheet_tables.specs.Positions.{IsProper, position_from};
 ghost use Rattle.sheet_tables.specs.Spots.{spot_from, component_from, at_slash, in_component, IsSpot};
 
@@ -19,7 +20,9 @@ impl Model for Spot {
 
     ghost Value = { Mark };
 
-    ghost view = { λ s. record { component = s.component; sheets = s.position.sheets; cells = s.position.cells; room = s.position.room } };
+    ghost view = { λ s.
+        record
+        { component = s.component; sheets = s.position.sheets; cells = s.position.cells; room = s.position.room } };
 
     ghost invariant = { λ s. IsSpot s.component s.position.sheets s.position.cells };
 }
@@ -40,7 +43,9 @@ impl Spot {
         requires first { 1 ≤ component }
         requires last { component ≤ 60000 }
         requires proper { IsProper position.sheets position.cells }
-        ensures { result ≡ record { component = component; sheets = position.sheets; cells = position.cells; room = position.room } }
+        ensures { result
+            ≡ record
+            { component = component; sheets = position.sheets; cells = position.cells; room = position.room } }
     {
         Spot {
             component,
@@ -94,9 +99,11 @@ impl Spot {
 fn parse_in(alloc: Global, component: u32, text: &[u8]) -> Result<Spot, PositionFault>
     requires first { 1 ≤ component }
     requires last { component ≤ 60000 }
-    ensures spot { IfOk result (λ s. in_component component (position_from text.now) ≡ Some (s.component, s.sheets, s.cells)) }
+    ensures spot { IfOk result
+        (λ s. in_component component (position_from text.now) ≡ Some (s.component, s.sheets, s.cells)) }
     ensures room { IfOk result (λ s. s.room ≡ length s.cells) }
-    ensures fault { IfErr result (λ fault. fault ≢ PositionFault.Memory → in_component component (position_from text.now) ≡ None) }
+    ensures fault { IfErr result
+        (λ fault. fault ≢ PositionFault.Memory → in_component component (position_from text.now) ≡ None) }
 {
     let position = Position::parse_bytes(alloc, text)?;
     Ok(Spot::new(component, position))

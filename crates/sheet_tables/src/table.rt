@@ -24,7 +24,9 @@ impl Model for Table {
 
     ghost view = { λ t. record { sheets = t.sheets; columns = t.columns; cells = t.cells.items; room = t.room } };
 
-    ghost invariant = { λ t. IsTable t.sheets t.columns t.cells.items × (t.sheets ≤ t.room) × (t.room ≤ 8) × (t.room * t.columns ≤ vec_capacity t.cells) };
+    ghost invariant = { λ t.
+        IsTable t.sheets t.columns t.cells.items × (t.sheets ≤ t.room) × (t.room ≤ 8)
+        × (t.room * t.columns ≤ vec_capacity t.cells) };
 }
 
 impl Table {
@@ -37,7 +39,8 @@ impl Table {
         cells: &[u8],
     ) -> Result<Table, AllocError>
         requires { IsTable sheets columns cells.now }
-        ensures { IfOk result (λ t. t ≡ record { sheets = sheets; columns = columns; cells = cells.now; room = sheets }) }
+        ensures { IfOk result
+            (λ t. t ≡ record { sheets = sheets; columns = columns; cells = cells.now; room = sheets }) }
     {
         Ok(Table {
             sheets,
@@ -51,7 +54,8 @@ impl Table {
     pub fn with_room(alloc: Global, sheets: u8, columns: u32) -> Result<Table, AllocError>
         requires some { 1 ≤ sheets }
         requires most { sheets ≤ 8 }
-        ensures { IfOk result (λ t. t ≡ record { sheets = 1; columns = columns; cells = replicate columns 1; room = sheets }) }
+        ensures { IfOk result
+            (λ t. t ≡ record { sheets = 1; columns = columns; cells = replicate columns 1; room = sheets }) }
     {
         let mut cells = Vec::with_capacity(alloc, sheets as usize * columns as usize)?;
         let _ = cells.resize(columns as usize, 1);
@@ -112,7 +116,9 @@ impl Table {
     pub fn refill(&mut self, sheets: u8, cells: &[u8])
         requires table { IsTable sheets self.old.columns cells.now }
         requires room { sheets ≤ self.old.room }
-        ensures { self.new ≡ record { sheets = sheets; columns = self.old.columns; cells = cells.now; room = self.old.room } }
+        ensures { self.new
+            ≡ record
+            { sheets = sheets; columns = self.old.columns; cells = cells.now; room = self.old.room } }
     {
         self.sheets = sheets;
         self.cells.clear();

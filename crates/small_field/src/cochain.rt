@@ -1,5 +1,6 @@
 // Cochains, and chains with coefficients.
-ghost use Rattle.std.specs.Prelude.{◌≡◌, ◌≤◌, ◌-◌, ◌<◌, ◌^◌, ◌++◌, All, length, replicate, slice_index, slice_set, IfOk, OnOk};
+ghost use Rattle.std.specs.Prelude.{◌≡◌, ◌≤◌, ◌-◌, ◌<◌, ◌^◌, ◌++◌, All, length, replicate, slice_index};
+ghost use Rattle.std.specs.Prelude.{slice_set, IfOk, OnOk};
 ghost use Rattle.small_field.specs.Values.{AreElements, entries_from, entry_of};
 
 use crate::field::Field;

@@ -4,7 +4,8 @@ ghost use Rattle.std.specs.Prelude.{◌≡◌, ◌≢◌, ℕ, ◌*◌, ◌<◌,
 ghost use Rattle.std.proofs.Common.{lit≤, arith};
 ghost use Rattle.std.proofs.lemmas.Bool.Decides.{nat_tests};
 ghost use Rattle.lane_rows.specs.Lanes.{zip2};
-ghost use Rattle.small_field.specs.Quadratic.{four, nine, constant_of, linear_of, number_of_sum, add_sums, mul_sums, neg_sum};
+ghost use Rattle.small_field.specs.Quadratic.{four, nine, constant_of, linear_of, number_of_sum, add_sums};
+ghost use Rattle.small_field.specs.Quadratic.{mul_sums, neg_sum};
 ghost use Rattle.small_field.specs.Tried.{four_field, nine_field};
 
 use crate::field::Field;

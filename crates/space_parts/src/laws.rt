@@ -1,5 +1,6 @@
 // Laws on definitions: each is the contract of a function that does nothing at run time.
-ghost use Rattle.space_parts.specs.Laws.{EachCellIsInOnePart, FacetsLieWithin, OnePartIsTheSpace, PartsAreRegular, PartsHaveTheFacets};
+ghost use Rattle.space_parts.specs.Laws.{EachCellIsInOnePart, FacetsLieWithin, OnePartIsTheSpace};
+ghost use Rattle.space_parts.specs.Laws.{PartsAreRegular, PartsHaveTheFacets};
 
 use regular_check::{components_are_numbered, same_component_is_a_path};
 

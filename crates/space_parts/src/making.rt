@@ -1,5 +1,6 @@
 // One part of a space, cell by cell.
-ghost use Rattle.std.specs.Prelude.{◌≡◌, ℕ, ◌-◌, ◌+◌, ◌∷◌, ◌++◌, [], ◌≤◌, ◌<◌, All, length, map, slice_index, slice_set, IfOk, OnOk};
+ghost use Rattle.std.specs.Prelude.{◌≡◌, ℕ, ◌-◌, ◌+◌, ◌∷◌, ◌++◌, [], ◌≤◌, ◌<◌, All, length, map, slice_index};
+ghost use Rattle.std.specs.Prelude.{slice_set, IfOk, OnOk};
 ghost use Rattle.face_poset.specs.Poset.{layer, count, cell_count, IsCell, IsLimited, IsSpace};
 ghost use Rattle.regular_check.specs.Rules.{IsRegular};
 ghost use Rattle.regular_check.specs.Components.{component_count};

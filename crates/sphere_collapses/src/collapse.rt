@@ -107,7 +107,10 @@ fn list_pairs(
     requires primal { All (IsPlaced (length vertices.now) (length left.now)) primal.now }
     requires dual_few { length dual.now ≤ 60000 }
     requires primal_few { length primal.now ≤ 60000 }
-    ensures { IfOk result (λ pairs. pairs ≡ map (disk_pair_at disks.now edges.now) dual.now ++ map (vertex_pair_at vertices.now left.now) (reverse primal.now)) }
+    ensures { IfOk result (λ pairs.
+        pairs
+        ≡ map (disk_pair_at disks.now edges.now) dual.now
+        ++ map (vertex_pair_at vertices.now left.now) (reverse primal.now)) }
 {
     let mut pairs = Vec::new(alloc);
     for taken in dual {

@@ -1,5 +1,6 @@
 // Laws on definitions: each is the contract of a function that does nothing at run time.
-ghost use Rattle.sphere_collapses.specs.Laws.{BoundariesCollapse, CollapsedWalksClose, LastFaceCloses, SpheresHaveTrees};
+ghost use Rattle.sphere_collapses.specs.Laws.{BoundariesCollapse, CollapsedWalksClose, LastFaceCloses};
+ghost use Rattle.sphere_collapses.specs.Laws.{SpheresHaveTrees};
 
 use regular_check::cycles_go_round;
 

@@ -59,7 +59,9 @@ fn take_across(
     requires at { at.now ≡ cells_with links.now node }
     requires node { holds found.old.found node ≡ true }
     ensures most { found.new.most ≡ found.old.most }
-    ensures grows { OnOk result ((root : ℕ) → IsGrowing links.now root found.old.found tree.old.items → IsGrowing links.now root found.new.found tree.new.items) }
+    ensures grows { OnOk result
+        ((root : ℕ) → IsGrowing links.now root found.old.found tree.old.items
+        → IsGrowing links.now root found.new.found tree.new.items) }
     ensures longer { OnOk result (IsLonger found.old.found found.new.found) }
     ensures taken { OnOk result (All (HasEnds links.now found.new.found) at.now) }
 {

@@ -10,7 +10,10 @@
 mod kind;
 mod matching;
 
-ghost use Rattle.split_laws.specs.Laws.{FieldsSplit, SubstitutionSolves, SolutionsAreOne, SolutionsCombine, CellsAreCounted, ExtensionsPair, ReducedRowsAreCoboundaries, ExtensionsCommute, ReducedIsClosed, FlowsCommute, CocyclesAreExtensions, BasesExtend, BettiByReducedRanks};
+ghost use Rattle.split_laws.specs.Laws.{FieldsSplit, SubstitutionSolves, SolutionsAreOne, SolutionsCombine};
+ghost use Rattle.split_laws.specs.Laws.{CellsAreCounted, ExtensionsPair, ReducedRowsAreCoboundaries};
+ghost use Rattle.split_laws.specs.Laws.{ExtensionsCommute, ReducedIsClosed, FlowsCommute};
+ghost use Rattle.split_laws.specs.Laws.{CocyclesAreExtensions, BasesExtend, BettiByReducedRanks};
 
 pub use kind::Kind;
 pub use matching::Match;

@@ -1,6 +1,7 @@
 // Laws on definitions: each is the contract of a function with an empty body, and nothing at run time.
 ghost use Rattle.tuple_spaces.specs.Torus.{TorusIsRegular};
-ghost use Rattle.tuple_spaces.specs.VoxelLaws.{VoxelSpacesAreRegular, KeptVoxelSpacesAreRegular, CubicalSpacesAreRegular};
+ghost use Rattle.tuple_spaces.specs.VoxelLaws.{VoxelSpacesAreRegular, KeptVoxelSpacesAreRegular};
+ghost use Rattle.tuple_spaces.specs.VoxelLaws.{CubicalSpacesAreRegular};
 
 /// The torus of each size from 2 to 19 is regular.
 pub fn torus_is_regular()

@@ -50,7 +50,9 @@ fn push_pair(
     requires low { coordinate * stride ≤ place }
     requires room { place - coordinate * stride + (side - 1) * stride < length numbers.now }
     requires small { length numbers.now ≤ 54872 }
-    ensures { OnOk result (facets.new.items ≡ facets.old.items ++ map (slice_index numbers.now) (pair_places side stride place coordinate)) }
+    ensures { OnOk result
+        (facets.new.items
+        ≡ facets.old.items ++ map (slice_index numbers.now) (pair_places side stride place coordinate)) }
 {
     if coordinate % 2 == 1 {
         let start = place - coordinate * stride;

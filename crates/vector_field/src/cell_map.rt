@@ -1,4 +1,5 @@
-ghost use Rattle.std.specs.Prelude.{◌≡◌, ◌↔◌, ◌≤◌, ◌-◌, ℕ, map, length, slice_index_or, slice_set, replicate, Some, None, IfOk, IsTrue};
+ghost use Rattle.std.specs.Prelude.{◌≡◌, ◌↔◌, ◌≤◌, ◌-◌, ℕ, map, length, slice_index_or, slice_set, replicate};
+ghost use Rattle.std.specs.Prelude.{Some, None, IfOk, IsTrue};
 ghost use Rattle.vector_field.specs.CellMaps.{at, row, IsPut};
 ghost use Rattle.vector_field.specs.Pairs.{counts_of};
 

@@ -23,7 +23,9 @@ pub(crate) fn fits<G: Graded>(
     requires cells { pairing.now.counts ≡ counts_of (G.space graded.now) }
     requires counts { lengths last.now ≡ counts_of (G.space graded.now) }
     requires last { AreLast (G.space graded.now) pairs.now (length pairs.now) last.now }
-    ensures { result ≡ fits (G.space graded.now) (take index pairs.now) (pair_at pairs.now index) (drop (index + 1) pairs.now) }
+    ensures { result
+        ≡ fits (G.space graded.now) (take index pairs.now) (pair_at pairs.now index)
+        (drop (index + 1) pairs.now) }
 {
     let pair = pairs[index];
     is_incident(graded, pair)
@@ -96,7 +98,9 @@ fn is_after(place: Option<u32>, index: usize) -> bool
 
 /// Whether the lower of the pair is a cell of dimension 0 to 2.
 fn has_its_lower<G: Graded>(graded: &G, pair: Pair) -> bool
-    ensures { result ≡ (nat_lt pair.dim 3 && (nat_le 1 pair.lower && nat_le pair.lower (count (G.space graded.now) pair.dim))) }
+    ensures { result
+        ≡ (nat_lt pair.dim 3
+        && (nat_le 1 pair.lower && nat_le pair.lower (count (G.space graded.now) pair.dim))) }
 {
     pair.dim < 3 && 1 <= pair.lower && pair.lower <= graded.cells(pair.dim)
 }

@@ -51,7 +51,10 @@ fn add_pair<G: Graded>(
     requires most { found.old.most ≡ count (G.space graded.now) dim }
     ensures most { found.new.most ≡ found.old.most }
     ensures counts { pairing.new.counts ≡ pairing.old.counts }
-    ensures pairs { OnOk result (pairing.new.pairs ≡ put_open (G.space graded.now) dim pairing.old.pairs lower (first_open (G.space graded.now) pairing.old.pairs dim lower)) }
+    ensures pairs { OnOk result
+        (pairing.new.pairs
+        ≡ put_open (G.space graded.now) dim pairing.old.pairs lower
+        (first_open (G.space graded.now) pairing.old.pairs dim lower)) }
 {
     match open_coface(graded, pairing, dim, lower, found)? {
         Some(upper) => pairing.insert(alloc, Pair { dim, lower, upper }, found),

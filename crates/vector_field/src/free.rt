@@ -37,7 +37,8 @@ fn pair_dimension<G: Graded>(
     requires field { IsAbove (G.space graded.now) (dim + 1) pairing.old }
     ensures field { OnOk result (IsAbove (G.space graded.now) dim pairing.new) }
     ensures keeps { OnOk result (Keeps pairing.old.pairs pairing.new.pairs) }
-    ensures settled { OnOk result (AreSettled (G.space graded.now) pairing.new.pairs dim (count (G.space graded.now) dim)) }
+    ensures settled { OnOk result
+        (AreSettled (G.space graded.now) pairing.new.pairs dim (count (G.space graded.now) dim)) }
 {
     let made = free_pairs(alloc, graded, pairing, dim)?;
     pairing.extend(&made)?;

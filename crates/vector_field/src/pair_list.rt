@@ -1,6 +1,7 @@
 ghost use Rattle.std.specs.Prelude.{◌≡◌, ◌<◌, length, slice_index, slice_index_or, IfOk, IfErr};
 ghost use Rattle.std.specs.List.Sorted.{IsStrictlyIncreasing};
-ghost use Rattle.vector_field.specs.Pairs.{counts_of, critical_of, first_bad, unpaired, IsFault, IsFieldOf, IsPartner, IsValid};
+ghost use Rattle.vector_field.specs.Pairs.{counts_of, critical_of, first_bad, unpaired, IsFault, IsFieldOf};
+ghost use Rattle.vector_field.specs.Pairs.{IsPartner, IsValid};
 ghost use Rattle.vector_field.specs.Stages.{filled};
 
 use crate::checking::{fits, last_places};

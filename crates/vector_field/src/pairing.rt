@@ -1,4 +1,5 @@
-ghost use Rattle.std.specs.Prelude.{◌≡◌, ◌<◌, ◌≤◌, ◌+◌, ◌∷◌, ◌++◌, [], true, false, length, slice_index_or, MatchOption, IfOk, OnOk};
+ghost use Rattle.std.specs.Prelude.{◌≡◌, ◌<◌, ◌≤◌, ◌+◌, ◌∷◌, ◌++◌, [], true, false, length, slice_index_or};
+ghost use Rattle.std.specs.Prelude.{MatchOption, IfOk, OnOk};
 ghost use Rattle.std.specs.List.{list_any};
 ghost use Rattle.number_lists.specs.Members.{In};
 ghost use Rattle.number_lists.specs.Words.{holds};
@@ -68,7 +69,8 @@ impl Pairing {
     pub(crate) fn lower_of(&self, dim: u8, cell: u32) -> Option<u32>
         requires dim { dim < 3 }
         requires cell { HasCell self.now.counts (dim + 1) cell }
-        ensures { MatchOption result (list_any (has_upper dim cell) self.now.pairs ≡ false) (λ lower. In (pair dim lower cell) self.now.pairs) }
+        ensures { MatchOption result (list_any (has_upper dim cell) self.now.pairs ≡ false)
+            (λ lower. In (pair dim lower cell) self.now.pairs) }
     {
         self.lowers.get(dim + 1, cell)
     }
@@ -132,7 +134,8 @@ impl Pairing {
         found: &FoundNumbers,
     ) -> Result<(), AllocError>
         requires cells { HasCells self.old.counts pair }
-        requires lowers { (p : Pair) → In p self.old.pairs → p.dim ≡ pair.dim → (1 ≤ p.lower) × (p.lower ≤ found.now.most) }
+        requires lowers { (p : Pair) → In p self.old.pairs → p.dim ≡ pair.dim
+            → (1 ≤ p.lower) × (p.lower ≤ found.now.most) }
         requires unused { is_used self.old.pairs pair.dim pair.lower ≡ false }
         requires found { holds found.now.found pair.lower ≡ true }
         ensures counts { self.new.counts ≡ self.old.counts }

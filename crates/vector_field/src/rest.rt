@@ -1,4 +1,5 @@
-ghost use Rattle.std.specs.Prelude.{◌≡◌, ◌+◌, ◌-◌, ◌≤◌, ◌<◌, ℕ, not, false, true, length, slice_set, IfOk, IfSome, OnOk};
+ghost use Rattle.std.specs.Prelude.{◌≡◌, ◌+◌, ◌-◌, ◌≤◌, ◌<◌, ℕ, not, false, true, length, slice_set, IfOk};
+ghost use Rattle.std.specs.Prelude.{IfSome, OnOk};
 ghost use Rattle.number_lists.specs.Words.{holds};
 ghost use Rattle.face_poset.specs.Poset.{count};
 ghost use Rattle.vector_field.specs.Pairs.{counts_of, is_used};
@@ -48,7 +49,9 @@ impl Rest {
         requires counts { pairing.now.counts ≡ counts_of (G.space graded.now) }
         ensures most { IfOk result (λ rest. rest.most ≡ count (G.space graded.now) dim) }
         ensures len { IfOk result (λ rest. length rest.cells ≡ count (G.space graded.now) (dim + 1)) }
-        ensures left { IfOk result (λ rest. (cell : ℕ) → 1 ≤ cell → cell ≤ count (G.space graded.now) (dim + 1) → is_left rest.cells cell ≡ not (is_used pairing.now.pairs (dim + 1) cell)) }
+        ensures left { IfOk result (λ rest.
+            (cell : ℕ) → 1 ≤ cell → cell ≤ count (G.space graded.now) (dim + 1)
+            → is_left rest.cells cell ≡ not (is_used pairing.now.pairs (dim + 1) cell)) }
     {
         let cells = unused(alloc, pairing, dim + 1, graded.cells(dim + 1))?;
         let shared = vec![in alloc; 0u32; graded.cells(dim) as usize]?;
@@ -178,7 +181,9 @@ impl Rest {
 fn unused(alloc: Global, pairing: &Pairing, dim: u8, most: u32) -> Result<Vec<bool>, AllocError>
     requires { (cell : ℕ) → 1 ≤ cell → cell ≤ most → HasCell pairing.now.counts dim cell }
     ensures len { IfOk result (λ cells. length cells.items ≡ most) }
-    ensures left { IfOk result (λ cells. (cell : ℕ) → 1 ≤ cell → cell ≤ most → is_left cells.items cell ≡ not (is_used pairing.now.pairs dim cell)) }
+    ensures left { IfOk result (λ cells.
+        (cell : ℕ) → 1 ≤ cell → cell ≤ most
+        → is_left cells.items cell ≡ not (is_used pairing.now.pairs dim cell)) }
 {
     let mut cells = Vec::new(alloc);
     for index in 0..most {

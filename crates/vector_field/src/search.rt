@@ -29,7 +29,8 @@ pub(crate) fn open_coface<G: Graded>(
     requires most { found.old.most ≡ count (G.space graded.now) dim }
     ensures most { found.new.most ≡ found.old.most }
     ensures coface { IfOk result (λ answer. answer ≡ first_open (G.space graded.now) pairing.now.pairs dim lower) }
-    ensures led { IfOk result (λ answer. IfSome answer (λ _. IsLed (G.space graded.now) pairing.now.pairs dim lower found.new.found)) }
+    ensures led { IfOk result (λ answer.
+        IfSome answer (λ _. IsLed (G.space graded.now) pairing.now.pairs dim lower found.new.found)) }
 {
     let uppers = graded.cofaces(dim, lower);
     if are_used(pairing, dim + 1, uppers) {
@@ -113,7 +114,8 @@ fn find_steps<G: Graded>(
     requires field { IsPairing (G.space graded.now) pairing.now }
     requires most { found.old.most ≡ count (G.space graded.now) dim }
     ensures most { found.new.most ≡ found.old.most }
-    ensures steps { OnOk result (HasSteps (G.space graded.now) pairing.now.pairs dim facet found.old.found found.new.found) }
+    ensures steps { OnOk result
+        (HasSteps (G.space graded.now) pairing.now.pairs dim facet found.old.found found.new.found) }
 {
     let uppers = graded.cofaces(dim, facet);
     for upper in uppers {

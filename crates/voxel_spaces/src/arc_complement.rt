@@ -47,7 +47,8 @@ fn list_staying(alloc: Global, rows: &[(u32, u32)], side: usize) -> Result<Vec<u
     requires few { length rows.now ≤ 121 }
     requires side { side ≡ 2 * length rows.now + 1 }
     ensures { let sizes = box_of (length rows.now) in IfOk result (λ staying.
-        staying.items ≡ filter (λ i. stays rows.now (tuple_at (strides_of sizes) i)) (range_with_len 0 (volume sizes))) }
+        staying.items
+        ≡ filter (λ i. stays rows.now (tuple_at (strides_of sizes) i)) (range_with_len 0 (volume sizes))) }
 {
     let mut staying = Vec::new(alloc);
     for index in 0..side * side * 5 {

@@ -1,5 +1,6 @@
 // The cells at places, with their dimensions, numbers and facets.
-ghost use Rattle.std.specs.Prelude.{◌≡◌, ℕ, ◌≤◌, ◌<◌, ◌+◌, ◌^◌, ◌++◌, [], length, map, slice_index, Contains, IfOk, OnOk};
+ghost use Rattle.std.specs.Prelude.{◌≡◌, ℕ, ◌≤◌, ◌<◌, ◌+◌, ◌^◌, ◌++◌, [], length, map, slice_index, Contains};
+ghost use Rattle.std.specs.Prelude.{IfOk, OnOk};
 ghost use Rattle.std.specs.List.{All};
 ghost use Rattle.std.specs.List.Sorted.{IsStrictlyIncreasing};
 ghost use Rattle.voxel_spaces.specs.Places.{dim_at, facet_places, number_among, stage, IsClosed};
@@ -75,7 +76,8 @@ fn list_facets(
     requires there { (k : ℕ) → Contains (facet_places strides.now place) k → Contains places.now k }
     requires place { place < 2 ^ 40 }
     requires small { All (λ stride. stride < 2 ^ 40) strides.now }
-    ensures { OnOk result (facets.new.items ≡ map (number_among strides.now places.now) (facet_places strides.now place)) }
+    ensures { OnOk result
+        (facets.new.items ≡ map (number_among strides.now places.now) (facet_places strides.now place)) }
 {
     facets.clear();
     let mut rest = place;
