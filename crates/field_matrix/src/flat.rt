@@ -82,16 +82,6 @@ pub fn set_row(entries: &mut [u8], shape: Shape, row: usize, source: &[u8])
     target.copy_from_slice(source);
 }
 
-/// Multiplies each number by a factor.
-pub fn scale<F: Field>(numbers: &mut [u8], factor: F)
-    requires { AreElements F.ops numbers.old }
-    ensures { numbers.new ≡ map (F.ops.mul (F.number_of factor)) numbers.old }
-{
-    for number in numbers.iter_mut() {
-        *number = factor.mul(F::from_number(*number as u32)).to_number() as u8;
-    }
-}
-
 /// Multiplies a row by a factor.
 pub fn scale_row<F: Field>(entries: &mut [u8], shape: Shape, row: usize, factor: F)
     requires shape { length entries.old ≡ shape.rows * shape.cols }
@@ -104,7 +94,7 @@ pub fn scale_row<F: Field>(entries: &mut [u8], shape: Shape, row: usize, factor:
     let begin = begin_of(entries, shape, row);
     let (_, rest) = entries.split_at_mut(begin);
     let (target, _) = rest.split_at_mut(shape.cols);
-    scale(target, factor);
+    F::scale_row(target, factor);
 }
 
 /// Adds factor times the row `from` to the row `to`.

@@ -61,29 +61,12 @@ fn find_pivot(entries: &[u8], shape: Shape, rank: usize, begin: usize, upto: usi
         col: upto,
     };
     for row in rank..shape.rows {
-        let col = first_from(row_of(entries, shape, row), begin, best.col);
+        let col = lane_rows::first_nonzero_from(row_of(entries, shape, row), begin, best.col);
         if col < best.col {
             best = Pivot { row, col };
         }
     }
     if best.col < upto { Some(best) } else { None }
-}
-
-/// The first place from `begin` on, before `end`, at which a row is not zero, or the end.
-fn first_from(row: &[u8], begin: usize, end: usize) -> usize
-    requires begin { begin ≤ end }
-    requires end { end ≤ length row.now }
-    ensures low { begin ≤ result }
-    ensures high { result ≤ end }
-    ensures zeros { (j : ℕ) → begin ≤ j → j < result → slice_index row.now j ≡ 0 }
-    ensures found { result < end → slice_index row.now result ≢ 0 }
-{
-    for place in begin..end {
-        if row[place] != 0 {
-            return place;
-        }
-    }
-    end
 }
 
 /// Makes row `rank` begin with a 1 at the column, by the row `here`: the first from `rank` on that

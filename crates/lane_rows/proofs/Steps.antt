@@ -1,5 +1,5 @@
 -- Loops that go over two rows, sixteen places at a time and then one by one.
-use Rattle.std.proofs.Common.{◌≡◌, ℕ, suc, ◌+◌, ◌-◌, ◌*◌, ◌%◌, ◌<◌, ◌≤◌, List, [], ◌∷◌, All, length, get_or, set, get_or-set_same, get_or-set_other, inl, inr, zero-add, refl, ap, ap₂, sym, ◌∙◌, subst, arith}
+use Rattle.std.proofs.Common.{◌≡◌, ℕ, suc, ◌+◌, ◌-◌, ◌*◌, ◌%◌, ◌<◌, ◌≤◌, List, [], ◌∷◌, All, length, map, get_or, set, get_or-set_same, get_or-set_other, inl, inr, zero-add, refl, ap, ap₂, sym, ◌∙◌, subst, arith}
 use native.Mathlib.Decide.{dec_lt}
 use Prim.{yes, no}
 use Rattle.std.proofs.lemmas.Bool.{cases_eq}
@@ -10,7 +10,7 @@ use Rattle.std.proofs.lemmas.List.FromFn.{get_or-range_with_len}
 use Rattle.std.proofs.lemmas.Nat.{mod_below}
 use Rattle.std.proofs.lemmas.Simd.{get_or-zip2, length-zip2}
 use Rattle.std.proofs.Math.Nat.{add-mod-mod}
-use Rattle.lane_rows.specs.Lanes.{zip2, added, multiples_of, scaled}
+use Rattle.lane_rows.specs.Lanes.{zip2, added, multiples_of, replaced, scaled}
 use Rattle.lane_rows.specs.Vectors.{AreBelow, IsStepped, IsSteppedTo}
 
 -- sixteen places more
@@ -65,10 +65,15 @@ added-by_table p factor xs ys le small =
     (λ x y lt. ap (λ v. (x + v) % p) (multiple_at p factor y (omega arith)) ∙ add-mod-mod x (factor * y) p)
 
 -- the same of one row
-pub scaled_steps : (p factor : ℕ) (old new : List ℕ) (n : ℕ) → p ≤ 16 → All (λ x. x < p) old → length new ≡ length old → length old ≤ n
-    → IsSteppedTo (λ x y. get_or (multiples_of p factor) x 0) old old new n → new ≡ scaled p factor old
-scaled_steps p factor old new n small below long le h =
-    same_number_lists new (scaled p factor old) (long ∙ sym (length-map old (λ x. (factor * x) % p)))
-    (λ k lt.
-    let x : get_or old k 0 < p = below k 0 (omega arith) in
-    h.done k (omega arith) ∙ (multiple_at p factor (get_or old k 0) (omega arith) ∙ sym (get_or-map (λ x. (factor * x) % p) old k 0 0 (omega arith))))
+pub replaced_steps : (table old new : List ℕ) (n : ℕ) → length new ≡ length old → length old ≤ n → IsSteppedTo (λ x y. get_or table x 0) old old new n → new ≡ replaced table old
+replaced_steps table old new n long le h =
+    same_number_lists new (replaced table old) (long ∙ sym (length-map old (λ x. get_or table x 0)))
+    (λ k lt. h.done k (omega arith) ∙ sym (get_or-map (λ x. get_or table x 0) old k 0 0 (omega arith)))
+
+pub map-agree : (f g : ℕ → ℕ) (n : ℕ) (xs : List ℕ) → All (λ x. x < n) xs → ((x : ℕ) → x < n → f x ≡ g x) → map f xs ≡ map g xs
+map-agree f g n [] small same = refl
+map-agree f g n (x ∷ xs) small same = ap₂ (λ a b. a ∷ b) (same x (small 0 0 (omega arith))) (map-agree f g n xs (λ i d lt. small (suc i) d (omega arith)) same)
+
+pub replaced-multiples : (p factor : ℕ) (xs : List ℕ) → p ≤ 16 → All (λ x. x < p) xs → replaced (multiples_of p factor) xs ≡ scaled p factor xs
+replaced-multiples p factor xs le small =
+    map-agree (λ x. get_or (multiples_of p factor) x 0) (λ x. (factor * x) % p) p xs small (λ x lt. multiple_at p factor x (omega arith))

@@ -17,8 +17,8 @@ pub fn add_scaled(target: &mut [u8], source: &[u8], factor: u8, p: u8)
     requires source { All (λ x. x < p) source.now }
     ensures { target.new ≡ added p factor target.old source.now }
 {
-    if p == 2 {
-        add_by_two(target, source, factor);
+    if p == 2 || target.len() < SHORT {
+        add_one_by_one(target, source, factor, p);
     } else {
         add_products(&Modulo { p }, target, source, &multiples(factor, p));
     }
@@ -42,18 +42,45 @@ pub fn add_pairs(target: &mut [u8], source: &[u8], products: &[u8; 16], p: u8)
     }
 }
 
-/// The same as `add_scaled` modulo 2. The compiler goes through this loop in lanes, and no other form was faster; it
-/// is a function of its own when it runs, since inside of a loop over rows the compiler would not.
+/// Rows that are shorter are added one by one: what the table of multiples costs is not won back.
+const SHORT: usize = 200;
+
+/// The same as `add_scaled`. The compiler goes through these loops in lanes, since it knows each modulus, and modulo 2
+/// no other form was faster; it is a function of its own when it runs, since inside of a loop over rows the compiler
+/// would not.
 #[inline(never)]
-fn add_by_two(target: &mut [u8], source: &[u8], factor: u8)
-    requires factor { factor < 2 }
+fn add_one_by_one(target: &mut [u8], source: &[u8], factor: u8, p: u8)
+    requires modulus { 1 < p }
+    requires small { p ≤ 13 }
+    requires factor { factor < p }
     requires lengths { length source.now ≡ length target.old }
-    requires target { All (λ x. x < 2) target.old }
-    requires source { All (λ x. x < 2) source.now }
-    ensures { target.new ≡ added 2 factor target.old source.now }
+    requires target { All (λ x. x < p) target.old }
+    requires source { All (λ x. x < p) source.now }
+    ensures { target.new ≡ added p factor target.old source.now }
+{
+    match p {
+        2 => add_each(target, source, factor, 2),
+        3 => add_each(target, source, factor, 3),
+        5 => add_each(target, source, factor, 5),
+        7 => add_each(target, source, factor, 7),
+        11 => add_each(target, source, factor, 11),
+        13 => add_each(target, source, factor, 13),
+        _ => add_each(target, source, factor, p),
+    }
+}
+
+#[inline(always)]
+fn add_each(target: &mut [u8], source: &[u8], factor: u8, p: u8)
+    requires modulus { 1 < p }
+    requires small { p ≤ 13 }
+    requires factor { factor < p }
+    requires lengths { length source.now ≡ length target.old }
+    requires target { All (λ x. x < p) target.old }
+    requires source { All (λ x. x < p) source.now }
+    ensures { target.new ≡ added p factor target.old source.now }
 {
     for i in 0..target.len() {
-        target[i] = (target[i] + factor * source[i]) % 2;
+        target[i] = (target[i] + factor * source[i]) % p;
     }
 }
 

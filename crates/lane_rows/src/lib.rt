@@ -13,5 +13,5 @@ mod vectors;
 
 pub use add::{add_pairs, add_scaled};
 pub use permute::compose8;
-pub use product::{dot, scale};
-pub use search::first_nonzero;
+pub use product::{dot, replace, scale};
+pub use search::{first_nonzero, first_nonzero_from};

@@ -1,6 +1,6 @@
 // Multiples of a row, and products of two.
 ghost use Rattle.std.specs.Prelude.{◌≡◌, ℕ, ◌+◌, ◌*◌, ◌%◌, ◌<◌, ◌≤◌, All, length, slice_index, sum};
-ghost use Rattle.lane_rows.specs.Lanes.{chunk, dot_product, scaled, zip2};
+ghost use Rattle.lane_rows.specs.Lanes.{chunk, dot_product, replaced, scaled, zip2};
 ghost use Rattle.lane_rows.specs.Vectors.{IsStepped};
 
 use crate::table::multiples;
@@ -15,19 +15,26 @@ pub fn scale(target: &mut [u8], factor: u8, p: u8)
     requires target { All (λ x. x < p) target.old }
     ensures { target.new ≡ scaled p factor target.old }
 {
-    let products = multiples(factor, p);
-    let table = u8x16::from_array(products);
+    replace(target, &multiples(factor, p));
+}
+
+/// Puts the entry of the table `table` at each number of `target` in its place.
+pub fn replace(target: &mut [u8], table: &[u8; 16])
+    requires target { All (λ x. x < 16) target.old }
+    ensures { target.new ≡ replaced table.now target.old }
+{
+    let lanes = u8x16::from_array(*table);
     for chunk in 0..target.len() / 16 {
-        scale_from(target, table, chunk * 16);
+        replace_from(target, lanes, chunk * 16);
     }
     for i in target.len() / 16 * 16..target.len() {
-        target[i] = products[target[i] as usize];
+        target[i] = table[target[i] as usize];
     }
 }
 
 /// Puts the entry of the table in the place of each of sixteen numbers from `at` on.
 #[inline(always)]
-fn scale_from(target: &mut [u8], table: u8x16, at: usize)
+fn replace_from(target: &mut [u8], table: u8x16, at: usize)
     requires room { at + 16 ≤ length target.old }
     requires small { (k : ℕ) → k < 16 → slice_index target.old (at + k) < 16 }
     ensures { IsStepped (λ x y. slice_index table x) target.old target.old target.new at }

@@ -1,5 +1,5 @@
 -- Worked by hand.
-use Rattle.std.proofs.Common.{◌≡◌, ℕ, Bool, true, false, refl}
+use Rattle.std.proofs.Common.{◌≡◌, true, false, refl}
 use Rattle.small_field.specs.Quadratic.{four, nine}
 use Rattle.small_field.specs.Modulus.{is_modulus, field_of}
 

@@ -1,6 +1,6 @@
 //! The trait of a field.
 
-ghost use Rattle.std.specs.Prelude.{◌≡◌, ◌≢◌, ℕ, ◌<◌, ◌≤◌, ◌↔◌, IsTrue, All, length};
+ghost use Rattle.std.specs.Prelude.{◌≡◌, ◌≢◌, ℕ, ◌<◌, ◌≤◌, ◌↔◌, IsTrue, All, length, map};
 ghost use Rattle.small_field.specs.Field.{Ops, IsField};
 ghost use Rattle.lane_rows.specs.Lanes.{zip2};
 
@@ -58,6 +58,11 @@ pub trait Field: Copy + Eq {
         requires target { All (λ x. x < SIZE) target.old }
         requires source { All (λ x. x < SIZE) source.now }
         ensures { target.new ≡ zip2 (λ x y. ops.add x (ops.mul (number_of factor) y)) target.old source.now };
+
+    /// Multiplies each number of the target by `factor`. It is a row of numbers of elements.
+    fn scale_row(target: &mut [u8], factor: Self)
+        requires { All (λ x. x < SIZE) target.old }
+        ensures { target.new ≡ map (λ x. ops.mul (number_of factor) x) target.old };
 
     /// The laws of a field hold.
     ghost laws: { IsField ops };

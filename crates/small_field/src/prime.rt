@@ -92,6 +92,10 @@ impl Field for Gfp<2> {
     fn add_scaled_row(target: &mut [u8], source: &[u8], factor: Self) {
         lane_rows::add_scaled(target, source, factor.value, 2);
     }
+
+    fn scale_row(target: &mut [u8], factor: Self) {
+        lane_rows::scale(target, factor.value, 2);
+    }
 }
 
 impl Field for Gfp<3> {
@@ -158,6 +162,10 @@ impl Field for Gfp<3> {
 
     fn add_scaled_row(target: &mut [u8], source: &[u8], factor: Self) {
         lane_rows::add_scaled(target, source, factor.value, 3);
+    }
+
+    fn scale_row(target: &mut [u8], factor: Self) {
+        lane_rows::scale(target, factor.value, 3);
     }
 }
 
@@ -226,6 +234,10 @@ impl Field for Gfp<5> {
     fn add_scaled_row(target: &mut [u8], source: &[u8], factor: Self) {
         lane_rows::add_scaled(target, source, factor.value, 5);
     }
+
+    fn scale_row(target: &mut [u8], factor: Self) {
+        lane_rows::scale(target, factor.value, 5);
+    }
 }
 
 impl Field for Gfp<7> {
@@ -292,6 +304,10 @@ impl Field for Gfp<7> {
 
     fn add_scaled_row(target: &mut [u8], source: &[u8], factor: Self) {
         lane_rows::add_scaled(target, source, factor.value, 7);
+    }
+
+    fn scale_row(target: &mut [u8], factor: Self) {
+        lane_rows::scale(target, factor.value, 7);
     }
 }
 
@@ -360,6 +376,10 @@ impl Field for Gfp<11> {
     fn add_scaled_row(target: &mut [u8], source: &[u8], factor: Self) {
         lane_rows::add_scaled(target, source, factor.value, 11);
     }
+
+    fn scale_row(target: &mut [u8], factor: Self) {
+        lane_rows::scale(target, factor.value, 11);
+    }
 }
 
 impl Field for Gfp<13> {
@@ -426,5 +446,9 @@ impl Field for Gfp<13> {
 
     fn add_scaled_row(target: &mut [u8], source: &[u8], factor: Self) {
         lane_rows::add_scaled(target, source, factor.value, 13);
+    }
+
+    fn scale_row(target: &mut [u8], factor: Self) {
+        lane_rows::scale(target, factor.value, 13);
     }
 }

@@ -1,6 +1,6 @@
 //! The fields of 4 and of 9 elements.
 
-ghost use Rattle.std.specs.Prelude.{◌≡◌, ◌≢◌, ℕ, ◌*◌, ◌<◌, ◌≤◌, All, length, refl, slice_index};
+ghost use Rattle.std.specs.Prelude.{◌≡◌, ◌≢◌, ℕ, ◌*◌, ◌<◌, ◌≤◌, All, length, map, refl, slice_index};
 ghost use Rattle.std.proofs.Common.{lit≤, arith};
 ghost use Rattle.std.proofs.lemmas.Bool.Decides.{nat_tests};
 ghost use Rattle.lane_rows.specs.Lanes.{zip2};
@@ -95,6 +95,10 @@ impl Field for Gf4 {
     fn add_scaled_row(target: &mut [u8], source: &[u8], factor: Self) {
         add_scaled::<2, 1, 1>(target, source, factor.value);
     }
+
+    fn scale_row(target: &mut [u8], factor: Self) {
+        scale::<2, 1, 1>(target, factor.value);
+    }
 }
 
 /// The sum `a + b x` of the field of 9 elements, seen as the number `a + 3 b`: `a` and `b` are integers modulo 3, and
@@ -181,6 +185,10 @@ impl Field for Gf9 {
     fn add_scaled_row(target: &mut [u8], source: &[u8], factor: Self) {
         add_scaled::<3, 2, 0>(target, source, factor.value);
     }
+
+    fn scale_row(target: &mut [u8], factor: Self) {
+        scale::<3, 2, 0>(target, factor.value);
+    }
 }
 
 /// The sum of two sums `a + b x`, by their numbers.
@@ -254,6 +262,18 @@ fn add_scaled<const P: u8, const C: u8, const D: u8>(target: &mut [u8], source: 
     ensures { target.new ≡ zip2 (λ x y. add_sums P x (mul_sums P C D factor y)) target.old source.now }
 {
     lane_rows::add_pairs(target, source, &products::<P, C, D>(factor), P);
+}
+
+/// Multiplies each number of the target by `factor`.
+fn scale<const P: u8, const C: u8, const D: u8>(target: &mut [u8], factor: u8)
+    requires large { 2 ≤ P }
+    requires small { P ≤ 3 }
+    requires constant { C ≤ 2 }
+    requires linear { D ≤ 2 }
+    requires target { All (λ x. x < P * P) target.old }
+    ensures { target.new ≡ map (λ x. mul_sums P C D factor x) target.old }
+{
+    lane_rows::replace(target, &products::<P, C, D>(factor));
 }
 
 /// The products of a factor with the numbers below 16.

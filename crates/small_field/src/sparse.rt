@@ -43,6 +43,15 @@ impl Sparse {
         }
     }
 
+    /// The row without an entry, with room for that many.
+    pub fn with_room(alloc: Global, room: u32) -> Result<Sparse, AllocError>
+        ensures { IfOk result (λ s. s ≡ []) }
+    {
+        Ok(Sparse {
+            entries: Vec::with_capacity(alloc, room as usize)?,
+        })
+    }
+
     /// Appends an entry. On an error the list stays as it was.
     pub fn push(&mut self, entry: Entry) -> Result<(), AllocError>
         requires above { All (λ e. e.0 < entry.position) self.old }
