@@ -21,11 +21,17 @@ pub trait Field: Copy + Eq {
 
     /// The element with the number 0, the neutral one of addition.
     fn zero() -> Self
-        ensures { number_of result ≡ 0 };
+        ensures { number_of result ≡ 0 }
+    {
+        Self::from_number(0)
+    }
 
     /// The element with the number 1, the neutral one of multiplication.
     fn one() -> Self
-        ensures { number_of result ≡ 1 };
+        ensures { number_of result ≡ 1 }
+    {
+        Self::from_number(1)
+    }
 
     fn add(self, other: Self) -> Self
         ensures { number_of result ≡ ops.add (number_of self) (number_of other) };

@@ -46,14 +46,6 @@ impl Field for Gfp<2> {
 
     ghost eq_same = { λ x y. Prim.grind (arith, nat_tests) };
 
-    fn zero() -> Self {
-        Gfp { value: 0 }
-    }
-
-    fn one() -> Self {
-        Gfp { value: 1 }
-    }
-
     fn add(self, other: Self) -> Self {
         Gfp {
             value: (self.value + other.value) % 2,
@@ -116,14 +108,6 @@ impl Field for Gfp<3> {
     ghost identical = { λ x y same. same };
 
     ghost eq_same = { λ x y. Prim.grind (arith, nat_tests) };
-
-    fn zero() -> Self {
-        Gfp { value: 0 }
-    }
-
-    fn one() -> Self {
-        Gfp { value: 1 }
-    }
 
     fn add(self, other: Self) -> Self {
         Gfp {
@@ -188,14 +172,6 @@ impl Field for Gfp<5> {
 
     ghost eq_same = { λ x y. Prim.grind (arith, nat_tests) };
 
-    fn zero() -> Self {
-        Gfp { value: 0 }
-    }
-
-    fn one() -> Self {
-        Gfp { value: 1 }
-    }
-
     fn add(self, other: Self) -> Self {
         Gfp {
             value: (self.value + other.value) % 5,
@@ -258,14 +234,6 @@ impl Field for Gfp<7> {
     ghost identical = { λ x y same. same };
 
     ghost eq_same = { λ x y. Prim.grind (arith, nat_tests) };
-
-    fn zero() -> Self {
-        Gfp { value: 0 }
-    }
-
-    fn one() -> Self {
-        Gfp { value: 1 }
-    }
 
     fn add(self, other: Self) -> Self {
         Gfp {
@@ -330,14 +298,6 @@ impl Field for Gfp<11> {
 
     ghost eq_same = { λ x y. Prim.grind (arith, nat_tests) };
 
-    fn zero() -> Self {
-        Gfp { value: 0 }
-    }
-
-    fn one() -> Self {
-        Gfp { value: 1 }
-    }
-
     fn add(self, other: Self) -> Self {
         Gfp {
             value: (self.value + other.value) % 11,
@@ -400,14 +360,6 @@ impl Field for Gfp<13> {
     ghost identical = { λ x y same. same };
 
     ghost eq_same = { λ x y. Prim.grind (arith, nat_tests) };
-
-    fn zero() -> Self {
-        Gfp { value: 0 }
-    }
-
-    fn one() -> Self {
-        Gfp { value: 1 }
-    }
 
     fn add(self, other: Self) -> Self {
         Gfp {

@@ -49,14 +49,6 @@ impl Field for Gf4 {
 
     ghost eq_same = { λ x y. Prim.grind (arith, nat_tests) };
 
-    fn zero() -> Self {
-        Gf4 { value: 0 }
-    }
-
-    fn one() -> Self {
-        Gf4 { value: 1 }
-    }
-
     fn add(self, other: Self) -> Self {
         Gf4 {
             value: add_sums::<2>(self.value, other.value),
@@ -138,14 +130,6 @@ impl Field for Gf9 {
     ghost identical = { λ x y same. same };
 
     ghost eq_same = { λ x y. Prim.grind (arith, nat_tests) };
-
-    fn zero() -> Self {
-        Gf9 { value: 0 }
-    }
-
-    fn one() -> Self {
-        Gf9 { value: 1 }
-    }
 
     fn add(self, other: Self) -> Self {
         Gf9 {

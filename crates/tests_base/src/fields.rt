@@ -154,7 +154,7 @@ fn a_multiple_of_a_row_is_added(rt: HostRuntime) {
 
 /// The row with 1 at place 2 alone, and its entry.
 fn one_entry(alloc: Global) -> Result<(Sparse, Entry), AllocError> {
-    let mut row = Sparse::new(alloc);
+    let mut row = Sparse::with_room(alloc, 1)?;
     row.push(Entry {
         position: 2,
         value: 1,

@@ -1,7 +1,7 @@
-// Rows of elements of each field, of each length up to 200, beside sums of single entries.
+// Rows of elements of each field, of each length up to 240, beside sums of single entries.
 ghost use Rattle.std.specs.Prelude.{◌≡◌, ◌<◌, ◌≤◌, All, IfOk, length};
 
-use lane_rows::{add_scaled, compose8, dot, first_nonzero, scale};
+use lane_rows::{add_scaled, compose8, dot, first_nonzero, first_nonzero_from, replace, scale};
 use small_field::{Field, Gf4, Gf9, Gfp};
 use std::alloc::{AllocError, Global};
 use std::process::Abort;
@@ -9,7 +9,7 @@ use std::test::Fail;
 
 /// The numbers `(step * i + start) mod p`.
 fn row(alloc: Global, len: usize, step: usize, start: usize, p: u8) -> Result<Vec<u8>, AllocError>
-    requires len { len ≤ 200 }
+    requires len { len ≤ 240 }
     requires step { step ≤ 7 }
     requires start { start ≤ 3 }
     requires modulus { 0 < p }
@@ -25,7 +25,7 @@ fn row(alloc: Global, len: usize, step: usize, start: usize, p: u8) -> Result<Ve
 
 /// The first row less the second: `add_scaled` by the factor -1.
 fn compare_sums(rt: &(impl Abort + AllocGlobal), len: usize, p: u8) -> Result<(), Fail>
-    requires len { len ≤ 200 }
+    requires len { len ≤ 240 }
     requires modulus { 1 < p }
     requires small { p ≤ 13 }
 {
@@ -40,7 +40,7 @@ fn compare_sums(rt: &(impl Abort + AllocGlobal), len: usize, p: u8) -> Result<()
 
 /// The negatives of a row: `scale` by the factor -1.
 fn compare_multiples(rt: &(impl Abort + AllocGlobal), len: usize, p: u8) -> Result<(), Fail>
-    requires len { len ≤ 200 }
+    requires len { len ≤ 240 }
     requires modulus { 1 < p }
     requires small { p ≤ 13 }
 {
@@ -54,7 +54,7 @@ fn compare_multiples(rt: &(impl Abort + AllocGlobal), len: usize, p: u8) -> Resu
 
 /// The dot product of two rows.
 fn compare_products(rt: &(impl Abort + AllocGlobal), len: usize, p: u8) -> Result<(), Fail>
-    requires len { len ≤ 200 }
+    requires len { len ≤ 240 }
     requires modulus { 1 < p }
     requires small { p ≤ 13 }
 {
@@ -71,7 +71,7 @@ fn compare_products(rt: &(impl Abort + AllocGlobal), len: usize, p: u8) -> Resul
 #[test]
 fn loops_agree_with_single_entries(rt: HostRuntime) -> Result<(), Fail> {
     for p in [2u8, 3, 5, 7, 11, 13, 12] {
-        for len in 0..201 {
+        for len in 0..241 {
             compare_sums(&rt, len, p)?;
             compare_multiples(&rt, len, p)?;
             compare_products(&rt, len, p)?;
@@ -82,7 +82,7 @@ fn loops_agree_with_single_entries(rt: HostRuntime) -> Result<(), Fail> {
 
 /// The sum of a row and a multiple of a row of elements of a field.
 fn compare_rows<F: Field>(rt: &(impl Abort + AllocGlobal), len: usize) -> Result<(), Fail>
-    requires len { len ≤ 200 }
+    requires len { len ≤ 240 }
     requires size { 1 < F.SIZE }
 {
     let size = F::SIZE as u8;
@@ -98,9 +98,25 @@ fn compare_rows<F: Field>(rt: &(impl Abort + AllocGlobal), len: usize) -> Result
     Ok(())
 }
 
+/// The multiple of a row of elements of a field.
+fn compare_scaled<F: Field>(rt: &(impl Abort + AllocGlobal), len: usize) -> Result<(), Fail>
+    requires len { len ≤ 240 }
+    requires size { 1 < F.SIZE }
+{
+    let size = F::SIZE as u8;
+    let factor = F::from_number(F::SIZE - 1);
+    let mut multiple = row(rt.alloc(), len, 7, 3, size)?;
+    F::scale_row(&mut multiple, factor);
+    for (i, found) in multiple.iter().enumerate() {
+        let wanted = factor.mul(F::from_number((7 * i as u32 + 3) % F::SIZE));
+        assert_eq!(rt; *found as u32, wanted.to_number(), "{size} at {i}");
+    }
+    Ok(())
+}
+
 #[test]
 fn rows_of_elements_agree_with_single_elements(rt: HostRuntime) -> Result<(), Fail> {
-    for len in 0..201 {
+    for len in 0..241 {
         compare_rows::<Gfp<2>>(&rt, len)?;
         compare_rows::<Gfp<3>>(&rt, len)?;
         compare_rows::<Gf4>(&rt, len)?;
@@ -109,6 +125,14 @@ fn rows_of_elements_agree_with_single_elements(rt: HostRuntime) -> Result<(), Fa
         compare_rows::<Gf9>(&rt, len)?;
         compare_rows::<Gfp<11>>(&rt, len)?;
         compare_rows::<Gfp<13>>(&rt, len)?;
+        compare_scaled::<Gfp<2>>(&rt, len)?;
+        compare_scaled::<Gfp<3>>(&rt, len)?;
+        compare_scaled::<Gf4>(&rt, len)?;
+        compare_scaled::<Gfp<5>>(&rt, len)?;
+        compare_scaled::<Gfp<7>>(&rt, len)?;
+        compare_scaled::<Gf9>(&rt, len)?;
+        compare_scaled::<Gfp<11>>(&rt, len)?;
+        compare_scaled::<Gfp<13>>(&rt, len)?;
     }
     Ok(())
 }
@@ -141,6 +165,24 @@ fn the_first_number_is_found(rt: HostRuntime) {
     ] {
         assert_eq!(rt; first_nonzero(&row), wanted);
     }
+}
+
+#[test]
+fn the_first_number_from_a_place_is_found(rt: HostRuntime) {
+    let row = [3u8, 0, 0, 6, 0];
+    assert_eq!(rt; first_nonzero_from(&row, 1, 5), 3);
+    assert_eq!(rt; first_nonzero_from(&row, 1, 3), 3);
+    assert_eq!(rt; first_nonzero_from(&row, 4, 5), 5);
+}
+
+#[test]
+fn numbers_are_replaced_by_a_table(rt: HostRuntime) {
+    let mut numbers = [2u8, 0, 1, 2];
+    replace(
+        &mut numbers,
+        &[7, 8, 9, 0, 0, 0, 0, 0, 0, 0, 0, 0, 0, 0, 0, 0],
+    );
+    assert_eq!(rt; numbers, [9, 7, 8, 9]);
 }
 
 #[test]
