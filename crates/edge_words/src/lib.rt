@@ -1,0 +1,12 @@
+//! Words of edges in the generators that a field of pairs leaves, the relators of its critical 2-cells,
+//! and where words lead through a table of sheets.
+//!
+//! An edge that is paired with a vertex has the empty word, a critical edge its own letter, and an edge
+//! that is paired with a 2-cell the reduced word that the cycle of this 2-cell forces. The reduced words
+//! of the cycles of the critical 2-cells are the relators of the fundamental group. Cells, generators and
+//! sheets are numbered from 1; the letter g is generator g forward, -g backward.
+#![tactic(auto)]
+
+mod fault;
+
+pub use fault::WordFault;
