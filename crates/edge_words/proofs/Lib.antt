@@ -1,1 +1,2 @@
+mod WordPlaces
 mod Examples

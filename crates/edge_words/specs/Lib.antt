@@ -1,9 +1,11 @@
 -- What the contracts mean: Words, Limits, Labels and Laws.
+-- What the code keeps for itself: Places.
 -- Words of lower crates that these speak of stand at the end.
 pub mod Words
 pub mod Limits
 pub mod Labels
 pub mod Laws
+pub mod Places
 pub use Rattle.pair_laws.specs.Letters
 pub use Rattle.sheet_laws.specs.Tables
 pub use Rattle.sheet_laws.specs.Labellings

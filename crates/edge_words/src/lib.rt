@@ -8,5 +8,8 @@
 #![tactic(auto)]
 
 mod fault;
+mod presentation;
+mod word_list;
 
 pub use fault::WordFault;
+pub use presentation::Presentation;
