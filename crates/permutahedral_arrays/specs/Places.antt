@@ -24,6 +24,7 @@
 --   is_inside size c                          whether a coordinate, written higher by one, is one of a bit
 --   mark_at planes rows columns bits x y z    the mark of a point, whose plane, row and column are counted from -1 and written higher by one
 --   mark_of planes rows columns bits place    the mark of the point at a place
+--   box_points planes rows columns            how many points a box has
 --   marks_of planes rows columns bits         the marks of all places
 --   space_with depth slab row marks           the space of the marked points
 --   solid depth planes rows columns bits      the space of the points of the bits that are 1
@@ -96,6 +97,9 @@ mark_at planes rows columns bits x y z =
 abbrev pub mark_of : (planes rows columns : ℕ) → (bits : List Bool) → (place : ℕ) → Bool
 mark_of planes rows columns bits place =
     mark_at planes rows columns bits (place / ((rows + 2) * (columns + 2))) (place % ((rows + 2) * (columns + 2)) / (columns + 2)) (place % (columns + 2))
+
+abbrev pub box_points : (planes rows columns : ℕ) → ℕ
+box_points planes rows columns = (planes + 2) * ((rows + 2) * (columns + 2))
 
 abbrev pub marks_of : (planes rows columns : ℕ) → (bits : List Bool) → List Bool
 marks_of planes rows columns bits = map (mark_of planes rows columns bits) (range_with_len 0 ((planes + 2) * ((rows + 2) * (columns + 2))))

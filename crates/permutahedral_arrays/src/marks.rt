@@ -1,6 +1,6 @@
 // The marks of the places of a box: whether the point at each is present.
-ghost use Rattle.std.specs.Prelude.{◌≡◌, ◌≤◌, ◌+◌, ◌*◌, ◌^◌, IfOk, IfErr};
-ghost use Rattle.permutahedral_arrays.specs.Places.{is_inside, mark_at, mark_of, marks_of, from_end};
+ghost use Rattle.std.specs.Prelude.{◌≡◌, ◌≤◌, ◌<◌, ◌+◌, ◌*◌, ◌^◌, IfOk, IfErr};
+ghost use Rattle.permutahedral_arrays.specs.Places.{box_points, is_inside, mark_at, mark_of, marks_of, from_end};
 
 use array_values::ArrayFault;
 use std::alloc::{AllocError, Global};
@@ -61,7 +61,7 @@ pub(crate) fn list_marks(
 ) -> Result<Vec<bool>, AllocError>
     requires row { row ≡ grid.now.columns + 2 }
     requires slab { slab ≡ (grid.now.rows + 2) * (grid.now.columns + 2) }
-    requires few { (grid.now.planes + 2) * ((grid.now.rows + 2) * (grid.now.columns + 2)) ≤ 2 ^ 29 }
+    requires few { box_points grid.now.planes grid.now.rows grid.now.columns ≤ 2 ^ 29 }
     ensures { IfOk result (λ marks. marks.items ≡ marks_of grid.now.planes grid.now.rows grid.now.columns bits.now) }
 {
     let mut marks = Vec::new(alloc);
@@ -76,23 +76,21 @@ pub(crate) fn list_marks(
 
 /// How many points a slab and a row of a box have.
 ///
-/// Want of memory is answered where the box has more than 2^29 points, so that their marks alone would
+/// Want of memory is answered exactly where the box has more than 2^29 points, so that their marks alone would
 /// take more than 512 MiB. Below that every place fits in 32 bits, as the lists of cells keep them.
 pub(crate) fn steps(grid: &Grid) -> Result<(u32, u32), ArrayFault>
     ensures row { IfOk result (λ steps. steps.1 ≡ grid.now.columns + 2) }
     ensures slab { IfOk result (λ steps. steps.0 ≡ (grid.now.rows + 2) * (grid.now.columns + 2)) }
-    ensures few { IfOk result
-        (λ steps. (grid.now.planes + 2) * ((grid.now.rows + 2) * (grid.now.columns + 2)) ≤ 2 ^ 29) }
+    ensures few { IfOk result (λ steps. box_points grid.now.planes grid.now.rows grid.now.columns ≤ 2 ^ 29) }
     ensures small_row { IfOk result (λ steps. steps.1 ≤ 2 ^ 29) }
     ensures small_slab { IfOk result (λ steps. steps.0 ≤ 2 ^ 29) }
     ensures fault { IfErr result (λ fault. fault ≡ ArrayFault.Memory) }
+    ensures many { IfErr result (λ _. 2 ^ 29 < box_points grid.now.planes grid.now.rows grid.now.columns) }
 {
     let row = grid.columns as u128 + 2;
     let slab = (grid.rows as u128 + 2) * row;
-    if row > MOST_POINTS || slab > MOST_POINTS {
-        return Err(ArrayFault::Memory);
-    }
-    if (grid.planes as u128 + 2) * slab > MOST_POINTS {
+    let points = (grid.planes as u128 + 2) * slab;
+    if points > MOST_POINTS {
         return Err(ArrayFault::Memory);
     }
     Ok((slab as u32, row as u32))

@@ -1,4 +1,4 @@
-ghost use Rattle.std.specs.Prelude.{◌≡◌, ◌≢◌, length, IfOk, IfErr, Ok, Err};
+ghost use Rattle.std.specs.Prelude.{◌≡◌, ◌≢◌, ◌≤◌, ◌<◌, ◌^◌, length, IfOk, IfErr, Ok, Err};
 ghost use Rattle.std.specs.List.{range_with_len, items_where_true};
 ghost use Rattle.gap_text.specs.Nest.{view};
 ghost use Rattle.tuple_spaces.specs.Rules.{IsRegular};
@@ -25,16 +25,27 @@ const MOST_BITS: usize = 2_147_483_648;
 pub fn cubical(alloc: Global, nest: &Nest) -> Result<Space, ArrayFault>
     ensures space { IfOk result (λ space. cubical_of (view nest.now) ≡ Ok space) }
     ensures regular { IfOk result IsRegular }
-    // Want of memory may be answered to any nest, and comes above 2^31 bits.
+    // Want of memory may be answered to any nest.
     ensures fault { IfErr result (λ fault. fault ≢ ArrayFault.Memory → cubical_of (view nest.now) ≡ Err fault) }
 {
     cubical_spaces_are_regular();
     let array = read_bits(alloc, nest, 1, 3)?;
-    if array.bits().len() > MOST_BITS {
-        return Err(ArrayFault::Memory);
-    }
+    limit_bits(array.bits())?;
     let indices = list_ones(alloc, array.bits())?;
     voxel_space(alloc, array.sizes(), &indices)
+}
+
+/// Want of memory, exactly where there are more than 2^31 bits.
+fn limit_bits(bits: &[bool]) -> Result<(), ArrayFault>
+    ensures few { IfOk result (λ _. length bits.now ≤ 2 ^ 31) }
+    ensures many { IfErr result (λ _. 2 ^ 31 < length bits.now) }
+    ensures fault { IfErr result (λ fault. fault ≡ ArrayFault.Memory) }
+{
+    if bits.len() > MOST_BITS {
+        Err(ArrayFault::Memory)
+    } else {
+        Ok(())
+    }
 }
 
 /// The places of the bits that are 1.
