@@ -8,8 +8,12 @@
 #![tactic(auto)]
 
 mod fault;
+mod laws;
 mod presentation;
 mod word_list;
 
 pub use fault::WordFault;
+pub use laws::{
+    forced_words_are_the_only_ones, labels_are_the_lift, lifts_are_labellings, walks_follow_words,
+};
 pub use presentation::Presentation;

@@ -1,0 +1,35 @@
+-- What other crates may cite of the proofs here. Where a lemma takes `CyclesGoRound` or `LastFaceCloses`, hand it the clause of
+-- regular_check's law or of the law of sphere_collapses.
+
+-- ---- words in letters
+
+-- the inverse of two words joined, of an inverse, of a reduced word
+pub use Rattle.edge_words.proofs.FreeWords.{inverted-append, inverted-twice, is_reduced-inverted}
+-- a part of a word may be reduced first; a word and its inverse leave nothing
+pub use Rattle.edge_words.proofs.FreeWords.{reduced-left, reduced-right, reduced-undone, reduced-undone_back}
+-- the letters of a word are those of the first generators: what that says, of words joined, reduced and inverted, and by recursion
+unfoldable pub use Rattle.edge_words.proofs.Moves.{AreOf}
+pub use Rattle.edge_words.proofs.Moves.{of-letters, of-append, of-reduced, of-inverted, of-recursion, recursion-of}
+-- ---- words in the letters of a table
+
+-- two words one after another; a word permutes the sheets, and its inverse undoes it; the reduced word leads as the word does
+pub use Rattle.edge_words.proofs.Moves.{follow-append, word-turn, word-back, word-short}
+-- ---- the words of edges
+
+-- words of steps: joined, of words that agree, their letters
+pub use Rattle.edge_words.proofs.WordStages.{word_of-append, word_of-agree, word_of-letters}
+-- the words of edges: how many, their letters, reduced; those of paired and of critical edges
+pub use Rattle.edge_words.proofs.WordStages.{words-long, words-letters, words-short, words-close, tree-word, critical-word}
+-- they are forced, and no others are; nor does another reduced word at one pair close the round of its 2-cell
+pub use Rattle.edge_words.proofs.ForcedWords.{words-forced, words-one, words-only}
+-- ---- labels by words
+
+-- walks by labels that words give; the words of edges give the lift; where its walks lead
+pub use Rattle.edge_words.proofs.WordLabels.{walk-word, labels-are_lift, lift-walk, lift-walk_short}
+-- ---- 2-cells
+
+-- what a 2-cell is to a field, and the induction over all of them
+pub use Rattle.edge_words.proofs.FieldCells.{disk-kinds, over-disks}
+-- labels that close round all 2-cells of a 3-cell but one close round it; those that close round the critical ones, and round those that
+-- are paired with an edge, close round all; a lift is a labelling where the relators lead home, and only there
+pub use Rattle.edge_words.proofs.LiftLabels.{last-closes, all-close, to-relators, from-relators}

@@ -1,0 +1,8 @@
+use Rattle.edge_words.proofs.LiftLabels.{to-relators, from-relators}
+use Rattle.edge_words.proofs.laws.lifts_are_labellings.Goals as goal
+
+pub returns : goal.returns
+returns c space pairs m cells is regular valid l table =
+    let law = c.cycles_go_round.ensures in
+    let last = c.last_face_closes.ensures in
+    (to-relators law last space pairs is regular valid m cells table, from-relators law last space pairs is regular valid m cells table l)
