@@ -8,16 +8,20 @@ pub use Rattle.edge_words.proofs.FreeWords.{inverted-append, inverted-twice, is_
 -- a part of a word may be reduced first; a word and its inverse leave nothing
 pub use Rattle.edge_words.proofs.FreeWords.{reduced-left, reduced-right, reduced-undone, reduced-undone_back}
 -- the letters of a word are those of the first generators: what that says, of words joined, reduced and inverted, and by recursion
-unfoldable pub use Rattle.edge_words.proofs.Moves.{AreOf}
-pub use Rattle.edge_words.proofs.Moves.{of-letters, of-append, of-reduced, of-inverted, of-recursion, recursion-of}
+unfoldable pub use Rattle.edge_words.proofs.LetterWalks.{AreOf}
+pub use Rattle.edge_words.proofs.LetterWalks.{of-letters, of-append, of-reduced, of-inverted, of-recursion, recursion-of}
 -- ---- words in the letters of a table
 
 -- two words one after another; a word permutes the sheets, and its inverse undoes it; the reduced word leads as the word does
-pub use Rattle.edge_words.proofs.Moves.{follow-append, word-turn, word-back, word-short}
+pub use Rattle.edge_words.proofs.LetterWalks.{follow-append, word-turn, word-back, word-short}
+-- in a whole table no walk by a word, or by some words, fails exactly where they lead home
+pub use Rattle.edge_words.proofs.LetterWalks.{home-is, satisfied-is}
 -- ---- the words of edges
 
 -- words of steps: joined, of words that agree, their letters
-pub use Rattle.edge_words.proofs.WordStages.{word_of-append, word_of-agree, word_of-letters}
+pub use Rattle.edge_words.proofs.WordStages.{word_of-append, word_of-agree, word_of-letters, word_of-are_letters}
+-- what holds of the word of each edge holds of each word
+pub use Rattle.edge_words.proofs.WordStages.{each-word}
 -- the words of edges: how many, their letters, reduced; those of paired and of critical edges
 pub use Rattle.edge_words.proofs.WordStages.{words-long, words-letters, words-short, words-close, tree-word, critical-word}
 -- they are forced, and no others are; nor does another reduced word at one pair close the round of its 2-cell
@@ -30,6 +34,11 @@ pub use Rattle.edge_words.proofs.WordLabels.{walk-word, labels-are_lift, lift-wa
 
 -- what a 2-cell is to a field, and the induction over all of them
 pub use Rattle.edge_words.proofs.FieldCells.{disk-kinds, over-disks}
--- labels that close round all 2-cells of a 3-cell but one close round it; those that close round the critical ones, and round those that
--- are paired with an edge, close round all; a lift is a labelling where the relators lead home, and only there
-pub use Rattle.edge_words.proofs.LiftLabels.{last-closes, all-close, to-relators, from-relators}
+-- labels that close round all 2-cells of a 3-cell but one close round it, and those that close round the critical ones, and round those that
+-- are paired with an edge, close round all; the steps of a cycle are steps of the space
+pub use Rattle.edge_words.proofs.LastFaces.{cycle-within, last-closes}
+pub use Rattle.edge_words.proofs.LiftLabels.{all-close}
+-- ---- labellings
+
+-- what a labelling is; a lift is one where the relators lead home, and only there; the letters of the relators
+pub use Rattle.edge_words.proofs.LiftLabels.{LabellingParts, labelling-parts, labelling-from, to-relators, from-relators, relators-letters}

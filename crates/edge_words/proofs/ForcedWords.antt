@@ -1,10 +1,10 @@
 -- The words of edges are forced: at each pair of an edge with a 2-cell there is one reduced word that closes the round, and there is one list
 -- of words that do so everywhere.
-use Rattle.std.proofs.Common.{◌≡◌, ℕ, zero, suc, ◌-◌, ◌<◌, List, [], ◌∷◌, ◌++◌, length, get_or, set, refl, ap, arith, sym, ◌∙◌, subst, Bool, true, false, cond, ◌&&◌}
+use Rattle.std.proofs.Common.{◌≡◌, ℕ, suc, ◌-◌, ◌<◌, List, [], ◌∷◌, ◌++◌, length, get_or, set, refl, ap, arith, sym, ◌∙◌, subst, Bool, true, false, cond, ◌&&◌}
 use Rattle.std.specs.Prelude.{ℤ, pos}
 use Rattle.std.proofs.lemmas.Bool.{and_parts, and_from}
 use Rattle.std.proofs.lemmas.List.{same_lists, get_or_default}
-use Rattle.number_lists.specs.Members.{In, here, there}
+use Rattle.number_lists.specs.Members.{In, there}
 use Rattle.number_lists.proofs.CallerLemmas.{In-all, all-In, at-In, In-left, In-right}
 use Rattle.face_poset.specs.declared.cells.Pair.{Pair}
 use Rattle.face_poset.specs.Poset.{count, IsSpace}
@@ -22,8 +22,8 @@ use Rattle.edge_words.specs.Words.{word_at, step_word, word_of, words}
 use Rattle.edge_words.specs.Laws.{AreForced, IsOnlyForced}
 use Rattle.edge_words.proofs.FreeWords.{inverted-twice, is_reduced-inverted, round-once}
 use Rattle.edge_words.proofs.FieldCells.{lower-range, others-range}
-use Rattle.edge_words.proofs.Moves.{AreOf, of-letters}
-use Rattle.edge_words.proofs.WordStages.{word-same, word-other, word_of-append, word_of-agree, word_of-are_letters, words-long, words-letters, words-short, words-close, tree-word, critical-word}
+use Rattle.edge_words.proofs.LetterWalks.{AreOf, of-letters}
+use Rattle.edge_words.proofs.WordStages.{each-word, word-same, word-other, word_of-append, word_of-agree, word_of-are_letters, words-long, words-letters, words-short, words-close, tree-word, critical-word}
 
 module _ (law : CyclesGoRound) (space : List (List (List ℕ))) (pairs : List Pair) (is : IsSpace space) (regular : IsRegular space) (valid : IsValid space pairs) where
   long : length (words space pairs) ≡ count space 1
@@ -110,24 +110,13 @@ module _ (law : CyclesGoRound) (space : List (List (List ℕ))) (pairs : List Pa
   pub words-forced : AreForced space pairs (words space pairs)
   words-forced = record {
     one_for_each = long;
-    words = In-all (λ w. are_letters w && is_reduced w) (words space pairs) (λ w i.
-        let k = In-place i in
-        subst (λ (v : List ℤ). (are_letters v && is_reduced v) ≡ true) k.2 (there_word k.0 k.1));
+    words = In-all (λ w. are_letters w && is_reduced w) (words space pairs)
+        (each-word (λ w. (are_letters w && is_reduced w) ≡ true) (count space 1) (words space pairs) long
+        (λ e r. and_from (are_letters (word_at (words space pairs) e)) (is_reduced (word_at (words space pairs) e)) (ok e r) (short e r)));
     tree = tree;
     letters = own;
     closes = closed;
   }
-    where
-      In-place : {w : List ℤ} {ws : List (List ℤ)} → In w ws → (k : ℕ) × (k < length ws) × (get_or ws k [] ≡ w)
-      In-place here = (zero, omega arith, refl)
-      In-place (there h) = let r = In-place h in (suc r.0, omega (arith, r.1), r.2)
-
-      there_word : (k : ℕ) → k < length (words space pairs) → (are_letters (get_or (words space pairs) k []) && is_reduced (get_or (words space pairs) k [])) ≡ true
-      there_word k l =
-          let e : suc k - 1 ≡ k = omega arith in
-          let r : InRange (count space 1) (suc k) = (omega arith, omega (arith, l, long)) in
-          subst (λ (j : ℕ). (are_letters (get_or (words space pairs) j []) && is_reduced (get_or (words space pairs) j [])) ≡ true) e
-          (and_from (are_letters (word_at (words space pairs) (suc k))) (is_reduced (word_at (words space pairs) (suc k))) (ok (suc k) r) (short (suc k) r))
 
   -- and no others are
   pub words-one : (vs : List (List ℤ)) → AreForced space pairs vs → vs ≡ words space pairs

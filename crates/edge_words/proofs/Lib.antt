@@ -2,9 +2,11 @@ pub mod CallerLemmas
 mod WordPlaces
 mod Examples
 mod FreeWords
-mod Moves
+mod Ranges
+mod LetterWalks
 mod FieldCells
 mod WordStages
 mod ForcedWords
 mod WordLabels
+mod LastFaces
 mod LiftLabels

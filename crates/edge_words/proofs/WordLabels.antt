@@ -1,5 +1,5 @@
 -- Labels by words: the walk by them follows the words of the steps, and with the words of edges they are the lift.
-use Rattle.std.proofs.Common.{◌≡◌, ℕ, zero, suc, ◌-◌, ◌<◌, List, [], ◌∷◌, map, length, get_or, refl, ap, arith, sym, ◌∙◌, subst, Bool, true, false, cond}
+use Rattle.std.proofs.Common.{◌≡◌, ℕ, ◌-◌, List, [], ◌∷◌, map, length, refl, ap, arith, sym, ◌∙◌, subst, Bool, true, false, cond}
 use Rattle.std.specs.Prelude.{ℤ, pos}
 use Rattle.std.proofs.lemmas.List.{length-map, get_or-map, map-id}
 use Rattle.std.proofs.lemmas.List.FromFn.{length-map-range_with_len}
@@ -21,10 +21,10 @@ use Rattle.sheet_laws.proofs.CallerLemmas.{parts-of, at_values, at-range, critic
 use Rattle.live_laws.proofs.CallerLemmas.{table-column}
 use Rattle.edge_words.specs.Words.{word_at, step_word, word_of, words}
 use Rattle.live_laws.specs.Walks.{move}
-use Rattle.edge_words.specs.Labels.{labels_of}
+use Rattle.edge_words.specs.Labels.{label_of, labels_of}
 use Rattle.edge_words.proofs.FieldCells.{upper-range}
-use Rattle.edge_words.proofs.Moves.{AreOf, follow-append, word-turn, word-back, word-short}
-use Rattle.edge_words.proofs.WordStages.{word_of-letters, words-long, words-letters, words-close, tree-word, critical-word}
+use Rattle.edge_words.proofs.LetterWalks.{AreOf, follow-append, word-turn, word-back, word-short}
+use Rattle.edge_words.proofs.WordStages.{each-word, word_of-letters, words-long, words-letters, words-close, tree-word, critical-word}
 
 -- ---- labels by any words in the letters of a table
 
@@ -33,7 +33,7 @@ module _ (c m n : ℕ) (cells : List ℕ) (table : is_table c m cells ≡ true) 
   by_words = map (λ w. values m (follow (move c m cells) w)) ws
 
   pub label-word : (e : ℕ) → InRange n e → label by_words e ≡ values m (follow (move c m cells) (word_at ws e))
-  label-word e r = get_or-map (λ (w : List ℤ). values m (follow (move c m cells) w)) ws (e - 1) [] [] (omega (arith, r.0, r.1, long))
+  label-word e r = get_or-map (label_of c m cells) ws (e - 1) [] [] (omega (arith, r.0, r.1, long))
 
   -- a step follows its word
   step-word : (s : Step) → InRange n s.edge → (x : ℕ) → InRange m x → step by_words s x ≡ follow (move c m cells) (step_word ws s) x
@@ -93,35 +93,25 @@ module _ (law : CyclesGoRound) (space : List (List (List ℕ))) (pairs : List Pa
       ap (is_permutation m) (labels-label e r)
       ∙ list_of m (follow (move (columns_of space pairs) m cells) (word_at (words space pairs) e)) (word-turn (columns_of space pairs) m cells table (word_at (words space pairs) e) (letters e r))
 
-  -- all labels permute, by the place of each
   all-permute : (f : List ℕ) → In f (labels_of (columns_of space pairs) m cells (words space pairs)) → is_permutation m f ≡ true
   all-permute f i =
-      let r = map-In (λ (w : List ℤ). values m (follow (move (columns_of space pairs) m cells) w)) (words space pairs) i in
-      let k = In-place r.1 in
-      ap (is_permutation m) (r.2 ∙ ap (λ (w : List ℤ). values m (follow (move (columns_of space pairs) m cells) w)) (sym k.2))
-      ∙ list_of m (follow (move (columns_of space pairs) m cells) (get_or (words space pairs) k.0 [])) (word-turn (columns_of space pairs) m cells table (get_or (words space pairs) k.0 []) (place-letters k.0 k.1))
-    where
-      In-place : {w : List ℤ} {ws : List (List ℤ)} → In w ws → (k : ℕ) × (k < length ws) × (get_or ws k [] ≡ w)
-      In-place here = (zero, omega arith, refl)
-      In-place (there h) = let r = In-place h in (suc r.0, omega (arith, r.1), r.2)
-
-      place-letters : (k : ℕ) → k < length (words space pairs) → AreOf (columns_of space pairs) (get_or (words space pairs) k [])
-      place-letters k l =
-          let e : suc k - 1 ≡ k = omega arith in
-          subst (λ (j : ℕ). AreOf (columns_of space pairs) (get_or (words space pairs) j [])) e (letters (suc k) (omega arith, omega (arith, l, long)))
+      let r = map-In (label_of (columns_of space pairs) m cells) (words space pairs) i in
+      ap (is_permutation m) r.2
+      ∙ each-word (λ w. is_permutation m (label_of (columns_of space pairs) m cells w) ≡ true) (count space 1) (words space pairs) long
+      (λ e q. list_of m (follow (move (columns_of space pairs) m cells) (word_at (words space pairs) e)) (word-turn (columns_of space pairs) m cells table (word_at (words space pairs) e) (letters e q))) r.0 r.1
 
   labels-lift : IsLift space pairs m cells (labels_of (columns_of space pairs) m cells (words space pairs))
   labels-lift = record {
     labels = record {
-      one_for_each = length-map (words space pairs) (λ (w : List ℤ). values m (follow (move (columns_of space pairs) m cells) w)) ∙ long;
+      one_for_each = length-map (words space pairs) (label_of (columns_of space pairs) m cells) ∙ long;
       permutations = In-all (is_permutation m) (labels_of (columns_of space pairs) m cells (words space pairs)) all-permute;
     };
     tree = λ p i d.
         labels-label p.upper (upper-range space pairs valid p 0 i d)
-        ∙ (ap (λ (w : List ℤ). values m (follow (move (columns_of space pairs) m cells) w)) (tree-word law space pairs is regular valid p i d) ∙ map-id (upto m));
+        ∙ (ap (label_of (columns_of space pairs) m cells) (tree-word law space pairs is regular valid p i d) ∙ map-id (upto m));
     columns = λ g r.
         labels-label (at (critical_edges space pairs) g) (critical-range space pairs valid (at (critical_edges space pairs) g) (at-range (critical_edges space pairs) g r))
-        ∙ (ap (λ (w : List ℤ). values m (follow (move (columns_of space pairs) m cells) w)) (critical-word law space pairs is regular valid g r) ∙ column-values g r);
+        ∙ (ap (label_of (columns_of space pairs) m cells) (critical-word law space pairs is regular valid g r) ∙ column-values g r);
     forced = λ p i d.
         closes-from m (labels_of (columns_of space pairs) m cells (words space pairs)) (cycle space p.upper) (λ x q.
         labels-walk_short (cycle space p.upper) (within law space pairs is regular valid p i d) x q

@@ -1,5 +1,5 @@
 -- The words of edges, pair by pair: what each word is when the field is passed.
-use Rattle.std.proofs.Common.{◌≡◌, ◌⊎◌, inl, inr, ℕ, ◌-◌, ◌≤◌, List, [], ◌∷◌, ◌++◌, map, length, set, refl, ap, arith, sym, ◌∙◌, subst, Bool, true, false, cond}
+use Rattle.std.proofs.Common.{◌≡◌, ◌⊎◌, inl, inr, ℕ, ◌-◌, ◌≤◌, List, [], ◌∷◌, ◌++◌, map, length, set, refl, ap, arith, sym, ◌∙◌, subst, Bool, true, false, cond, zero, suc, ◌<◌, get_or}
 use Rattle.std.specs.Prelude.{ℤ, pos, ◌==◌, not}
 use Rattle.std.proofs.lemmas.Bool.{eqb-true, eq-eqb, false≢true, cases_Bool, false_from_ne_true}
 use Rattle.std.proofs.lemmas.List.{length-set, get_or-set_same, get_or-set_other, append_assoc, append-nil}
@@ -23,7 +23,7 @@ use Rattle.edge_words.specs.Words.{word_at, step_word, word_of, forced_word, fir
 use Rattle.edge_words.proofs.FreeWords.{round-closed}
 use Rattle.edge_words.proofs.FieldCells.{lower-range, upper-range, In-others}
 use Rattle.live_laws.specs.Walks.{generator}
-use Rattle.edge_words.proofs.Moves.{AreOf, of-letters, of-append, of-reduced, of-inverted}
+use Rattle.edge_words.proofs.LetterWalks.{AreOf, of-letters, of-append, of-reduced, of-inverted}
 
 -- ---- words that are put anew
 
@@ -32,6 +32,17 @@ word-same ws e w r = get_or-set_same ws (e - 1) w [] (omega (arith, r.0, r.1))
 
 pub word-other : (ws : List (List ℤ)) (e d : ℕ) (w : List ℤ) → 1 ≤ e → 1 ≤ d → (d ≡ e → ⊥) → word_at (set ws (e - 1) w) d ≡ word_at ws d
 word-other ws e d w l k n = get_or-set_other ws (e - 1) (d - 1) w [] (λ x. n (omega (arith, x, l, k)))
+
+-- what holds of the word of each edge holds of each word
+pub each-word : (P : List ℤ → Type 0) (n : ℕ) (ws : List (List ℤ)) → length ws ≡ n → ((e : ℕ) → InRange n e → P (word_at ws e)) → (w : List ℤ) → In w ws → P w
+each-word P n ws long h w i =
+    let k = place i in
+    let e : suc k.0 - 1 ≡ k.0 = omega arith in
+    subst P (ap (λ (j : ℕ). get_or ws j []) e ∙ k.2) (h (suc k.0) (omega arith, omega (arith, k.1, long)))
+  where
+    place : {w : List ℤ} {vs : List (List ℤ)} → In w vs → (k : ℕ) × (k < length vs) × (get_or vs k [] ≡ w)
+    place here = (zero, omega arith, refl)
+    place (there h) = let r = place h in (suc r.0, omega (arith, r.1), r.2)
 
 -- ---- words of steps
 

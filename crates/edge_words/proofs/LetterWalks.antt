@@ -1,16 +1,20 @@
 -- What letters do to the sheets of a table of permutations, and what words of such letters do.
 use Rattle.std.proofs.Common.{◌≡◌, inl, inr, ℕ, zero, suc, List, [], ◌∷◌, ◌++◌, refl, ap, arith, sym, ◌∙◌, subst, Bool, true, false, cond, ◌&&◌}
-use Rattle.std.specs.Prelude.{ℤ, pos, negsuc, nat_le}
-use Rattle.std.proofs.lemmas.Bool.{and_parts, and_from, leb-true, le-leb}
+use Rattle.std.specs.Prelude.{ℤ, pos, negsuc, ◌==◌, Option, Some, None}
+use Rattle.std.specs.List.{list_all}
+use Rattle.std.proofs.lemmas.Bool.{and_from}
 use Rattle.number_lists.specs.Members.{In, here, there}
-use Rattle.number_lists.proofs.CallerLemmas.{In-cases, append-In}
+use Rattle.number_lists.specs.Words.{upto}
+use Rattle.number_lists.proofs.CallerLemmas.{In-cases, append-In, upto-In}
 use Rattle.pair_laws.specs.Letters.{inverse, same_letter, is_letter, are_letters, before, reduced, inverted, follow}
 use Rattle.pair_laws.proofs.CallerLemmas.{inverse_twice, follow_reduced}
 use Rattle.sheet_laws.specs.Permutations.{InRange}
 use Rattle.sheet_laws.specs.Tables.{column, is_table}
 use Rattle.sheet_laws.proofs.CallerLemmas.{Turn, back-of-at, at-of-back}
-use Rattle.live_laws.specs.Walks.{generator, move, AreLetters}
-use Rattle.live_laws.proofs.CallerLemmas.{table-column, move-range}
+use Rattle.live_laws.specs.Walks.{generator, move, trace, never_fails, AreLetters}
+use Rattle.live_laws.proofs.CallerLemmas.{from-range, table-column, move-range, full_walks_follow}
+use Rattle.edge_words.specs.Labels.{leads_home, satisfies}
+use Rattle.edge_words.proofs.Ranges.{in_range, range-true, range-from}
 use Rattle.edge_words.proofs.FreeWords.{inverted-twice}
 
 -- ---- letters of some generators
@@ -61,6 +65,15 @@ of-reduced c w h g i = h g (reduced-In w g i)
 pub of-inverted : (c : ℕ) (w : List ℤ) → AreOf c w → AreOf c (inverted w)
 of-inverted c w h g i = rw (generator-inverse g) at (h (inverse g) (inverted-In w g i))
 
+-- the same by recursion, as the laws of live tables have it
+pub of-recursion : (c : ℕ) (w : List ℤ) → AreLetters c w → AreOf c w
+of-recursion c [] h g i = elim i [ ]
+of-recursion c (k ∷ w) h g i = elim (In-cases i) [ inl e ↦ subst (λ (z : ℤ). InRange c (generator z)) (sym e) h.0 | inr j ↦ of-recursion c w h.1 g j ]
+
+pub recursion-of : (c : ℕ) (w : List ℤ) → AreOf c w → AreLetters c w
+recursion-of c [] h = tt
+recursion-of c (g ∷ w) h = (h g here, recursion-of c w (λ k i. h k (there i)))
+
 -- ---- walks by letters
 
 pub follow-append : (f : ℤ → ℕ → ℕ) (u v : List ℤ) (x : ℕ) → follow f (u ++ v) x ≡ follow f v (follow f u x)
@@ -78,20 +91,9 @@ module _ (m : ℕ) (f : ℤ → ℕ → ℕ) (keeps : (g : ℤ) (x : ℕ) → In
   follow-undone (g ∷ w) x r =
       follow-append f (inverted w) (inverse g ∷ []) (follow f w (f g x)) ∙ (ap (f (inverse g)) (follow-undone w (f g x) (keeps g x r)) ∙ undone g x r)
 
-  is_sheet : ℕ → Bool
-  is_sheet x = nat_le 1 x && nat_le x m
-
-  sheet-true : (x : ℕ) → is_sheet x ≡ true → InRange m x
-  unfolding is_sheet
-  sheet-true x e = let b = and_parts (nat_le 1 x) (nat_le x m) e in (leb-true 1 x b.0, leb-true x m b.1)
-
-  sheet-from : (x : ℕ) → InRange m x → is_sheet x ≡ true
-  unfolding is_sheet
-  sheet-from x r = and_from (nat_le 1 x) (nat_le x m) (le-leb 1 x r.0) (le-leb x m r.1)
-
   follow-short : (w : List ℤ) (x : ℕ) → InRange m x → follow f (reduced w) x ≡ follow f w x
   follow-short w x r =
-      follow_reduced f is_sheet (λ g y e. sheet-from (f g y) (keeps g y (sheet-true y e))) (λ g y e. undone g y (sheet-true y e)) w x (sheet-from x r)
+      follow_reduced f (in_range m) (λ g y e. range-from m (f g y) (keeps g y (range-true m y e))) (λ g y e. undone g y (range-true m y e)) w x (range-from m x r)
 
 -- ---- the letters of a table
 
@@ -101,46 +103,32 @@ module _ (c m : ℕ) (cells : List ℕ) (table : is_table c m cells ≡ true) wh
   move-undone (pos (suc g)) x r q = back-of-at m (column c m cells (suc g)) (table-column c m cells table (suc g) r) x q
   move-undone (negsuc g) x r q = at-of-back m (column c m cells (suc g)) (table-column c m cells table (suc g) r) x q
 
-  is_of : ℤ → Bool
-  is_of g = nat_le 1 (generator g) && nat_le (generator g) c
-
-  of-true : (g : ℤ) → is_of g ≡ true → InRange c (generator g)
-  unfolding is_of
-  of-true g e = let b = and_parts (nat_le 1 (generator g)) (nat_le (generator g) c) e in (leb-true 1 (generator g) b.0, leb-true (generator g) c b.1)
-
-  of-from : (g : ℤ) → InRange c (generator g) → is_of g ≡ true
-  unfolding is_of
-  of-from g r = and_from (nat_le 1 (generator g)) (nat_le (generator g) c) (le-leb 1 (generator g) r.0) (le-leb (generator g) c r.1)
-
-  of-inverse : (g : ℤ) → is_of (inverse g) ≡ is_of g
-  unfolding is_of
-  of-inverse g = ap (λ (n : ℕ). nat_le 1 n && nat_le n c) (generator-inverse g)
-
   -- any other letter leaves each sheet where it is
   whole : ℤ → ℕ → ℕ
-  whole g x = cond (is_of g) (move c m cells g x) x
+  whole g x = cond (in_range c (generator g)) (move c m cells g x) x
 
   whole-keeps : (g : ℤ) (x : ℕ) → InRange m x → InRange m (whole g x)
   unfolding whole
-  whole-keeps g x q = by (is_of g) refl
+  whole-keeps g x q = by (in_range c (generator g)) refl
     where
-      by : (b : Bool) → is_of g ≡ b → InRange m (cond b (move c m cells g x) x)
-      by true e = move-range c m cells table g x (of-true g e) q
+      by : (b : Bool) → in_range c (generator g) ≡ b → InRange m (cond b (move c m cells g x) x)
+      by true e = move-range c m cells table g x (range-true c (generator g) e) q
       by false e = q
 
   whole-undone : (g : ℤ) (x : ℕ) → InRange m x → whole (inverse g) (whole g x) ≡ x
   unfolding whole
-  whole-undone g x q = ap (λ (b : Bool). cond b (move c m cells (inverse g) (cond (is_of g) (move c m cells g x) x)) (cond (is_of g) (move c m cells g x) x)) (of-inverse g) ∙ by (is_of g) refl
+  whole-undone g x q =
+      ap (λ (n : ℕ). cond (in_range c n) (move c m cells (inverse g) (whole g x)) (whole g x)) (generator-inverse g) ∙ by (in_range c (generator g)) refl
     where
-      by : (b : Bool) → is_of g ≡ b → cond b (move c m cells (inverse g) (cond b (move c m cells g x) x)) (cond b (move c m cells g x) x) ≡ x
-      by true e = move-undone g x (of-true g e) q
+      by : (b : Bool) → in_range c (generator g) ≡ b → cond b (move c m cells (inverse g) (cond b (move c m cells g x) x)) (cond b (move c m cells g x) x) ≡ x
+      by true e = move-undone g x (range-true c (generator g) e) q
       by false e = refl
 
   whole-move : (w : List ℤ) (x : ℕ) → AreOf c w → follow whole w x ≡ follow (move c m cells) w x
   unfolding whole
   whole-move [] x h = refl
   whole-move (g ∷ w) x h =
-      ap (λ (b : Bool). follow whole w (cond b (move c m cells g x) x)) (of-from g (h g here)) ∙ whole-move w (move c m cells g x) (λ k i. h k (there i))
+      ap (λ (b : Bool). follow whole w (cond b (move c m cells g x) x)) (range-from c (generator g) (h g here)) ∙ whole-move w (move c m cells g x) (λ k i. h k (there i))
 
   -- a word permutes the sheets, and its inverse undoes it
   pub word-turn : (w : List ℤ) → AreOf c w → Turn m (follow (move c m cells) w)
@@ -168,11 +156,23 @@ module _ (c m : ℕ) (cells : List ℕ) (table : is_table c m cells ≡ true) wh
   pub word-short : (w : List ℤ) → AreOf c w → (x : ℕ) → InRange m x → follow (move c m cells) (reduced w) x ≡ follow (move c m cells) w x
   word-short w h x r = sym (whole-move (reduced w) x (of-reduced c w h)) ∙ (follow-short m whole whole-keeps whole-undone w x r ∙ whole-move w x h)
 
--- the same by recursion, as the laws of live tables have it
-pub of-recursion : (c : ℕ) (w : List ℤ) → AreLetters c w → AreOf c w
-of-recursion c [] h g i = elim i [ ]
-of-recursion c (k ∷ w) h g i = elim (In-cases i) [ inl e ↦ subst (λ (z : ℤ). InRange c (generator z)) (sym e) h.0 | inr j ↦ of-recursion c w h.1 g j ]
+-- in a whole table no walk by a word fails exactly where the word leads home
+pub home-is : (c m : ℕ) (cells : List ℕ) (w : List ℤ) → is_table c m cells ≡ true → AreOf c w → never_fails c m cells w ≡ leads_home c m cells w
+home-is c m cells w table h =
+    ap (λ (xs : List ℕ). list_all (λ s. elim (trace c m cells w s) [ None ↦ true | Some t ↦ t == s ]) xs) (from-range 1 m)
+    ∙ same-all (upto m) (λ x i. ap (λ (o : Option ℕ). elim o [ None ↦ true | Some t ↦ t == x ]) (full_walks_follow c m cells w x table (recursion-of c w h) (upto-In m x i)))
+  where
+    same-all : (xs : List ℕ)
+        → ((x : ℕ) → In x xs → (elim (trace c m cells w x) [ None ↦ true | Some t ↦ t == x ]) ≡ (follow (move c m cells) w x == x))
+        → list_all (λ s. elim (trace c m cells w s) [ None ↦ true | Some t ↦ t == s ]) xs ≡ list_all (λ x. follow (move c m cells) w x == x) xs
+    same-all [] k = refl
+    same-all (x ∷ xs) k =
+        ap (λ (b : Bool). b && list_all (λ s. elim (trace c m cells w s) [ None ↦ true | Some t ↦ t == s ]) xs) (k x here)
+        ∙ ap (λ (b : Bool). (follow (move c m cells) w x == x) && b) (same-all xs (λ y i. k y (there i)))
 
-pub recursion-of : (c : ℕ) (w : List ℤ) → AreOf c w → AreLetters c w
-recursion-of c [] h = tt
-recursion-of c (g ∷ w) h = (h g here, recursion-of c w (λ k i. h k (there i)))
+-- and so it is with words
+pub satisfied-is : (c m : ℕ) (cells : List ℕ) (ws : List (List ℤ)) → is_table c m cells ≡ true → ((w : List ℤ) → In w ws → AreOf c w) → list_all (never_fails c m cells) ws ≡ satisfies c m cells ws
+satisfied-is c m cells [] table h = refl
+satisfied-is c m cells (w ∷ ws) table h =
+    ap (λ (b : Bool). b && list_all (never_fails c m cells) ws) (home-is c m cells w table (h w here))
+    ∙ ap (λ (b : Bool). leads_home c m cells w && b) (satisfied-is c m cells ws table (λ v i. h v (there i)))
