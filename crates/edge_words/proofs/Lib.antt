@@ -10,3 +10,4 @@ mod ForcedWords
 mod WordLabels
 mod LastFaces
 mod LiftLabels
+mod Representations

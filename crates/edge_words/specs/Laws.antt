@@ -9,6 +9,7 @@
 --   ForcedWordsAreTheOnlyOnes       so it is at each pair of an edge with a 2-cell
 --   LabelsAreTheLift                where the words lead through a table is the lift of the table
 --   LiftsAreLabellings              the lift is a labelling, on all edges and all 2-cells, exactly where each relator leads each sheet home
+--   IsLabellingAt p l               the labels l are a labelling of each regular space with a valid field whose presentation is p
 --   Follows space pairs m cells ss x    the walk by the lift along the steps ends where their word leads, and where the reduced word does
 --   WalksFollowWords                so it does along all steps of the space, from each sheet
 use Rattle.std.specs.Prelude.{◌≡◌, ◌↔◌, ℕ, ◌-◌, ◌≤◌, ℤ, pos, List, [], ◌∷◌, length, set, Bool, true, ◌&&◌}
@@ -25,8 +26,8 @@ use Rattle.sheet_laws.specs.Tables.{is_table}
 use Rattle.sheet_laws.specs.Labellings.{walk, is_labelling}
 use Rattle.sheet_laws.specs.Lifts.{critical_edges, columns_of, lift}
 use Rattle.live_laws.specs.Walks.{move}
-use Rattle.edge_words.specs.Words.{word_at, word_of, words, cycle_word, relators}
-use Rattle.edge_words.specs.Labels.{labels_of, satisfies}
+use Rattle.edge_words.specs.Words.{word_at, word_of, words, cycle_word, relators, Presented, presentation_of}
+use Rattle.edge_words.specs.Labels.{labels_of, satisfies, Labelled}
 
 abbrev pub are_words : List (List ℤ) → Bool
 are_words ws = list_all (λ w. are_letters w && is_reduced w) ws
@@ -88,6 +89,15 @@ LiftsAreLabellings =
     → is_table (columns_of space pairs) m cells ≡ true
     → (is_labelling space m (lift space pairs m cells) ≡ true)
     ↔ (satisfies (columns_of space pairs) m cells (relators space pairs) ≡ true)
+
+abbrev pub IsLabellingAt : Presented → Labelled → Type 0
+IsLabellingAt p l =
+    (space : Layers) (pairs : List Pair)
+    → IsSpace space
+    → IsRegular space
+    → IsValid space pairs
+    → p ≡ presentation_of space pairs
+    → is_labelling space l.sheets l.labels ≡ true
 
 pub record Follows (space : Layers) (pairs : List Pair) (m : ℕ) (cells : List ℕ) (ss : List Step) (x : ℕ) : Type 0 where
   pub word :
