@@ -7,9 +7,8 @@
 pub use Rattle.edge_words.proofs.FreeWords.{inverted-append, inverted-twice, is_reduced-inverted}
 -- a part of a word may be reduced first; a word and its inverse leave nothing
 pub use Rattle.edge_words.proofs.FreeWords.{reduced-left, reduced-right, reduced-undone, reduced-undone_back}
--- the letters of a word are those of the first generators: what that says, of words joined, reduced and inverted, and by recursion
-unfoldable pub use Rattle.edge_words.proofs.LetterWalks.{AreOf}
-pub use Rattle.edge_words.proofs.LetterWalks.{of-letters, of-append, of-reduced, of-inverted, of-recursion, recursion-of}
+-- letters of the first generators are letters; those of words joined, of the reduced word, of the inverse
+pub use Rattle.edge_words.proofs.LetterWalks.{letters-are, letters-append, letters-reduced, letters-inverted}
 -- ---- words in the letters of a table
 
 -- two words one after another; a word permutes the sheets, and its inverse undoes it; the reduced word leads as the word does

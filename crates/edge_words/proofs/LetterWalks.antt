@@ -1,13 +1,13 @@
 -- What letters do to the sheets of a table of permutations, and what words of such letters do.
-use Rattle.std.proofs.Common.{◌≡◌, inl, inr, ℕ, zero, suc, List, [], ◌∷◌, ◌++◌, refl, ap, arith, sym, ◌∙◌, subst, Bool, true, false, cond, ◌&&◌}
+use Rattle.std.proofs.Common.{◌≡◌, ℕ, zero, suc, List, [], ◌∷◌, ◌++◌, refl, ap, arith, sym, ◌∙◌, Bool, true, false, cond, ◌&&◌}
 use Rattle.std.specs.Prelude.{ℤ, pos, negsuc, ◌==◌, Option, Some, None}
 use Rattle.std.specs.List.{list_all}
 use Rattle.std.proofs.lemmas.Bool.{and_from}
 use Rattle.number_lists.specs.Members.{In, here, there}
 use Rattle.number_lists.specs.Words.{upto}
-use Rattle.number_lists.proofs.CallerLemmas.{In-cases, append-In, upto-In}
+use Rattle.number_lists.proofs.CallerLemmas.{upto-In}
 use Rattle.pair_laws.specs.Letters.{inverse, same_letter, is_letter, are_letters, before, reduced, inverted, follow}
-use Rattle.pair_laws.proofs.CallerLemmas.{inverse_twice, follow_reduced}
+use Rattle.pair_laws.proofs.CallerLemmas.{follow_reduced}
 use Rattle.sheet_laws.specs.Permutations.{InRange}
 use Rattle.sheet_laws.specs.Tables.{column, is_table}
 use Rattle.sheet_laws.proofs.CallerLemmas.{Turn, back-of-at, at-of-back}
@@ -24,55 +24,34 @@ generator-inverse (pos zero) = refl
 generator-inverse (pos (suc g)) = refl
 generator-inverse (negsuc g) = refl
 
--- the letters of the word are those of the generators 1 to c
-abbrev pub AreOf : (c : ℕ) → List ℤ → Type 0
-AreOf c w = (g : ℤ) → In g w → InRange c (generator g)
+letter-is : (c : ℕ) (g : ℤ) → InRange c (generator g) → is_letter g ≡ true
+letter-is c (pos zero) h = absurd (omega (arith, h.0))
+letter-is c (pos (suc n)) h = refl
+letter-is c (negsuc n) h = refl
 
-letter-of : (c : ℕ) (g : ℤ) → InRange c (generator g) → is_letter g ≡ true
-letter-of c (pos zero) r = absurd (omega (arith, r.0))
-letter-of c (pos (suc g)) r = refl
-letter-of c (negsuc g) r = refl
+pub letters-are : (c : ℕ) (w : List ℤ) → AreLetters c w → are_letters w ≡ true
+letters-are c [] h = refl
+letters-are c (g ∷ w) h = and_from (is_letter g) (are_letters w) (letter-is c g h.0) (letters-are c w h.1)
 
-pub of-letters : (c : ℕ) (w : List ℤ) → AreOf c w → are_letters w ≡ true
-of-letters c [] h = refl
-of-letters c (g ∷ w) h = and_from (is_letter g) (are_letters w) (letter-of c g (h g here)) (of-letters c w (λ k i. h k (there i)))
+pub letters-append : (c : ℕ) (u v : List ℤ) → AreLetters c u → AreLetters c v → AreLetters c (u ++ v)
+letters-append c [] v h k = k
+letters-append c (g ∷ u) v h k = (h.0, letters-append c u v h.1 k)
 
-pub of-append : (c : ℕ) (u v : List ℤ) → AreOf c u → AreOf c v → AreOf c (u ++ v)
-of-append c u v h k g i = elim (append-In u v i) [ inl j ↦ h g j | inr j ↦ k g j ]
-
-before-In : (g h : ℤ) (w : List ℤ) → In h (before g w) → In h (g ∷ w)
-before-In g h [] i = i
-before-In g h (k ∷ w) i = by (same_letter k (inverse g)) i
+letters-before : (c : ℕ) (g : ℤ) (w : List ℤ) → InRange c (generator g) → AreLetters c w → AreLetters c (before g w)
+letters-before c g [] r h = (r, tt)
+letters-before c g (x ∷ w) r h = by (same_letter x (inverse g)) refl
   where
-    by : (b : Bool) → In h (cond b w (g ∷ k ∷ w)) → In h (g ∷ k ∷ w)
-    by true j = there (there j)
-    by false j = j
+    by : (b : Bool) → same_letter x (inverse g) ≡ b → AreLetters c (before g (x ∷ w))
+    by true e = rw e h.1
+    by false e = rw e (r, h)
 
-reduced-In : (w : List ℤ) (h : ℤ) → In h (reduced w) → In h w
-reduced-In [] h i = i
-reduced-In (g ∷ w) h i = elim (In-cases (before-In g h (reduced w) i)) [ inl e ↦ subst (λ (k : ℤ). In k (g ∷ w)) (sym e) here | inr j ↦ there (reduced-In w h j) ]
+pub letters-reduced : (c : ℕ) (w : List ℤ) → AreLetters c w → AreLetters c (reduced w)
+letters-reduced c [] h = tt
+letters-reduced c (g ∷ w) h = letters-before c g (reduced w) h.0 (letters-reduced c w h.1)
 
-inverted-In : (w : List ℤ) (h : ℤ) → In h (inverted w) → In (inverse h) w
-inverted-In [] h i = elim i [ ]
-inverted-In (g ∷ w) h i = elim (append-In (inverted w) (inverse g ∷ []) i) [
-  | inl j ↦ there (inverted-In w h j)
-  | inr j ↦ elim (In-cases j) [ inl e ↦ subst (λ (k : ℤ). In k (g ∷ w)) (sym (ap inverse e ∙ inverse_twice g)) here | inr n ↦ elim n [ ] ]
-]
-
-pub of-reduced : (c : ℕ) (w : List ℤ) → AreOf c w → AreOf c (reduced w)
-of-reduced c w h g i = h g (reduced-In w g i)
-
-pub of-inverted : (c : ℕ) (w : List ℤ) → AreOf c w → AreOf c (inverted w)
-of-inverted c w h g i = rw (generator-inverse g) at (h (inverse g) (inverted-In w g i))
-
--- the same by recursion, as the laws of live tables have it
-pub of-recursion : (c : ℕ) (w : List ℤ) → AreLetters c w → AreOf c w
-of-recursion c [] h g i = elim i [ ]
-of-recursion c (k ∷ w) h g i = elim (In-cases i) [ inl e ↦ subst (λ (z : ℤ). InRange c (generator z)) (sym e) h.0 | inr j ↦ of-recursion c w h.1 g j ]
-
-pub recursion-of : (c : ℕ) (w : List ℤ) → AreOf c w → AreLetters c w
-recursion-of c [] h = tt
-recursion-of c (g ∷ w) h = (h g here, recursion-of c w (λ k i. h k (there i)))
+pub letters-inverted : (c : ℕ) (w : List ℤ) → AreLetters c w → AreLetters c (inverted w)
+letters-inverted c [] h = tt
+letters-inverted c (g ∷ w) h = letters-append c (inverted w) (inverse g ∷ []) (letters-inverted c w h.1) (rw (generator-inverse g) h.0, tt)
 
 -- ---- walks by letters
 
@@ -124,43 +103,43 @@ module _ (c m : ℕ) (cells : List ℕ) (table : is_table c m cells ≡ true) wh
       by true e = move-undone g x (range-true c (generator g) e) q
       by false e = refl
 
-  whole-move : (w : List ℤ) (x : ℕ) → AreOf c w → follow whole w x ≡ follow (move c m cells) w x
+  whole-move : (w : List ℤ) (x : ℕ) → AreLetters c w → follow whole w x ≡ follow (move c m cells) w x
   unfolding whole
   whole-move [] x h = refl
   whole-move (g ∷ w) x h =
-      ap (λ (b : Bool). follow whole w (cond b (move c m cells g x) x)) (range-from c (generator g) (h g here)) ∙ whole-move w (move c m cells g x) (λ k i. h k (there i))
+      ap (λ (b : Bool). follow whole w (cond b (move c m cells g x) x)) (range-from c (generator g) h.0) ∙ whole-move w (move c m cells g x) h.1
 
   -- a word permutes the sheets, and its inverse undoes it
-  pub word-turn : (w : List ℤ) → AreOf c w → Turn m (follow (move c m cells) w)
+  pub word-turn : (w : List ℤ) → AreLetters c w → Turn m (follow (move c m cells) w)
   word-turn w h = record {
     inv = follow (move c m cells) (inverted w);
     into = into w h;
-    inv_into = into (inverted w) (of-inverted c w h);
+    inv_into = into (inverted w) (letters-inverted c w h);
     left = undone w h;
-    right = λ x r. ap (λ (v : List ℤ). follow (move c m cells) v (follow (move c m cells) (inverted w) x)) (sym (inverted-twice w)) ∙ undone (inverted w) (of-inverted c w h) x r;
+    right = λ x r. ap (λ (v : List ℤ). follow (move c m cells) v (follow (move c m cells) (inverted w) x)) (sym (inverted-twice w)) ∙ undone (inverted w) (letters-inverted c w h) x r;
   }
     where
-      into : (w : List ℤ) → AreOf c w → (x : ℕ) → InRange m x → InRange m (follow (move c m cells) w x)
+      into : (w : List ℤ) → AreLetters c w → (x : ℕ) → InRange m x → InRange m (follow (move c m cells) w x)
       into w h x r = rw (whole-move w x h) at (follow-into m whole whole-keeps whole-undone w x r)
 
-      undone : (w : List ℤ) → AreOf c w → (x : ℕ) → InRange m x → follow (move c m cells) (inverted w) (follow (move c m cells) w x) ≡ x
+      undone : (w : List ℤ) → AreLetters c w → (x : ℕ) → InRange m x → follow (move c m cells) (inverted w) (follow (move c m cells) w x) ≡ x
       undone w h x r =
-          sym (whole-move (inverted w) (follow (move c m cells) w x) (of-inverted c w h))
+          sym (whole-move (inverted w) (follow (move c m cells) w x) (letters-inverted c w h))
           ∙ (ap (follow whole (inverted w)) (sym (whole-move w x h)) ∙ follow-undone m whole whole-keeps whole-undone w x r)
 
-  pub word-back : (w : List ℤ) → (h : AreOf c w) → (x : ℕ) → (word-turn w h).inv x ≡ follow (move c m cells) (inverted w) x
+  pub word-back : (w : List ℤ) → (h : AreLetters c w) → (x : ℕ) → (word-turn w h).inv x ≡ follow (move c m cells) (inverted w) x
   unfolding word-turn
   word-back w h x = refl
 
   -- the reduced word leads as the word does
-  pub word-short : (w : List ℤ) → AreOf c w → (x : ℕ) → InRange m x → follow (move c m cells) (reduced w) x ≡ follow (move c m cells) w x
-  word-short w h x r = sym (whole-move (reduced w) x (of-reduced c w h)) ∙ (follow-short m whole whole-keeps whole-undone w x r ∙ whole-move w x h)
+  pub word-short : (w : List ℤ) → AreLetters c w → (x : ℕ) → InRange m x → follow (move c m cells) (reduced w) x ≡ follow (move c m cells) w x
+  word-short w h x r = sym (whole-move (reduced w) x (letters-reduced c w h)) ∙ (follow-short m whole whole-keeps whole-undone w x r ∙ whole-move w x h)
 
 -- in a whole table no walk by a word fails exactly where the word leads home
-pub home-is : (c m : ℕ) (cells : List ℕ) (w : List ℤ) → is_table c m cells ≡ true → AreOf c w → never_fails c m cells w ≡ leads_home c m cells w
+pub home-is : (c m : ℕ) (cells : List ℕ) (w : List ℤ) → is_table c m cells ≡ true → AreLetters c w → never_fails c m cells w ≡ leads_home c m cells w
 home-is c m cells w table h =
     ap (λ (xs : List ℕ). list_all (λ s. elim (trace c m cells w s) [ None ↦ true | Some t ↦ t == s ]) xs) (from-range 1 m)
-    ∙ same-all (upto m) (λ x i. ap (λ (o : Option ℕ). elim o [ None ↦ true | Some t ↦ t == x ]) (full_walks_follow c m cells w x table (recursion-of c w h) (upto-In m x i)))
+    ∙ same-all (upto m) (λ x i. ap (λ (o : Option ℕ). elim o [ None ↦ true | Some t ↦ t == x ]) (full_walks_follow c m cells w x table h (upto-In m x i)))
   where
     same-all : (xs : List ℕ)
         → ((x : ℕ) → In x xs → (elim (trace c m cells w x) [ None ↦ true | Some t ↦ t == x ]) ≡ (follow (move c m cells) w x == x))
@@ -171,7 +150,7 @@ home-is c m cells w table h =
         ∙ ap (λ (b : Bool). (follow (move c m cells) w x == x) && b) (same-all xs (λ y i. k y (there i)))
 
 -- and so it is with words
-pub satisfied-is : (c m : ℕ) (cells : List ℕ) (ws : List (List ℤ)) → is_table c m cells ≡ true → ((w : List ℤ) → In w ws → AreOf c w) → list_all (never_fails c m cells) ws ≡ satisfies c m cells ws
+pub satisfied-is : (c m : ℕ) (cells : List ℕ) (ws : List (List ℤ)) → is_table c m cells ≡ true → ((w : List ℤ) → In w ws → AreLetters c w) → list_all (never_fails c m cells) ws ≡ satisfies c m cells ws
 satisfied-is c m cells [] table h = refl
 satisfied-is c m cells (w ∷ ws) table h =
     ap (λ (b : Bool). b && list_all (never_fails c m cells) ws) (home-is c m cells w table (h w here))

@@ -20,15 +20,15 @@ use Rattle.sheet_laws.specs.Lifts.{critical_edges, columns_of, IsLift, lift}
 use Rattle.sheet_laws.proofs.CallerLemmas.{parts-of, at_values, at-range, critical-range, list_of, back_values, same_turns, AreWithin, closes-from, within, lift_is_one}
 use Rattle.live_laws.proofs.CallerLemmas.{table-column}
 use Rattle.edge_words.specs.Words.{word_at, step_word, word_of, words}
-use Rattle.live_laws.specs.Walks.{move}
+use Rattle.live_laws.specs.Walks.{move, AreLetters}
 use Rattle.edge_words.specs.Labels.{label_of, labels_of}
 use Rattle.edge_words.proofs.FieldCells.{upper-range}
-use Rattle.edge_words.proofs.LetterWalks.{AreOf, follow-append, word-turn, word-back, word-short}
+use Rattle.edge_words.proofs.LetterWalks.{follow-append, word-turn, word-back, word-short}
 use Rattle.edge_words.proofs.WordStages.{each-word, word_of-letters, words-long, words-letters, words-close, tree-word, critical-word}
 
 -- ---- labels by any words in the letters of a table
 
-module _ (c m n : ℕ) (cells : List ℕ) (table : is_table c m cells ≡ true) (ws : List (List ℤ)) (long : length ws ≡ n) (letters : (e : ℕ) → InRange n e → AreOf c (word_at ws e)) where
+module _ (c m n : ℕ) (cells : List ℕ) (table : is_table c m cells ≡ true) (ws : List (List ℤ)) (long : length ws ≡ n) (letters : (e : ℕ) → InRange n e → AreLetters c (word_at ws e)) where
   abbrev pub by_words : List (List ℕ)
   by_words = map (λ w. values m (follow (move c m cells) w)) ws
 
@@ -68,7 +68,7 @@ module _ (c m n : ℕ) (cells : List ℕ) (table : is_table c m cells ≡ true) 
 
 module _ (law : CyclesGoRound) (space : List (List (List ℕ))) (pairs : List Pair) (is : IsSpace space) (regular : IsRegular space) (valid : IsValid space pairs)
     (m : ℕ) (cells : List ℕ) (table : is_table (columns_of space pairs) m cells ≡ true) where
-  letters : (e : ℕ) → InRange (count space 1) e → AreOf (columns_of space pairs) (word_at (words space pairs) e)
+  letters : (e : ℕ) → InRange (count space 1) e → AreLetters (columns_of space pairs) (word_at (words space pairs) e)
   letters = words-letters law space pairs is regular valid
 
   long : length (words space pairs) ≡ count space 1

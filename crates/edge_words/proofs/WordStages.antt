@@ -6,7 +6,7 @@ use Rattle.std.proofs.lemmas.List.{length-set, get_or-set_same, get_or-set_other
 use Rattle.std.proofs.lemmas.List.FromFn.{get_or-map-range_with_len, length-map-range_with_len}
 use Rattle.number_lists.specs.Members.{In, here, there}
 use Rattle.number_lists.specs.Words.{upto, holds}
-use Rattle.number_lists.proofs.CallerLemmas.{In-cases, append-In, push-In, In-left, In-right, In-last, holds-In, In-holds}
+use Rattle.number_lists.proofs.CallerLemmas.{append-In, push-In, In-left, In-right, In-last, holds-In, In-holds}
 use Rattle.face_poset.specs.declared.cells.Pair.{Pair}
 use Rattle.face_poset.specs.Poset.{count, IsSpace}
 use Rattle.regular_check.specs.declared.cycles.Step.{Step}
@@ -22,8 +22,8 @@ use Rattle.sheet_laws.proofs.CallerLemmas.{AreWithin, IsCutAt, IsRound, round-of
 use Rattle.edge_words.specs.Words.{word_at, step_word, word_of, forced_word, first_word, words_from, words}
 use Rattle.edge_words.proofs.FreeWords.{round-closed}
 use Rattle.edge_words.proofs.FieldCells.{lower-range, upper-range, In-others}
-use Rattle.live_laws.specs.Walks.{generator}
-use Rattle.edge_words.proofs.LetterWalks.{AreOf, of-letters, of-append, of-reduced, of-inverted}
+use Rattle.live_laws.specs.Walks.{AreLetters}
+use Rattle.edge_words.proofs.LetterWalks.{letters-are, letters-append, letters-reduced, letters-inverted}
 
 -- ---- words that are put anew
 
@@ -59,14 +59,14 @@ word_of-agree ws vs (s ∷ ss) h =
     ∙ ap (λ (w : List ℤ). step_word vs s ++ w) (word_of-agree ws vs ss (λ t i. h t (there i)))
 
 -- the letters of the words of steps
-pub word_of-letters : (n c : ℕ) (ws : List (List ℤ)) → ((e : ℕ) → InRange n e → AreOf c (word_at ws e)) → (ss : List Step) → AreWithin n ss → AreOf c (word_of ws ss)
-word_of-letters n c ws h [] r = λ g i. elim i [ ]
+pub word_of-letters : (n c : ℕ) (ws : List (List ℤ)) → ((e : ℕ) → InRange n e → AreLetters c (word_at ws e)) → (ss : List Step) → AreWithin n ss → AreLetters c (word_of ws ss)
+word_of-letters n c ws h [] r = tt
 word_of-letters n c ws h (s ∷ ss) r =
-    of-append c (step_word ws s) (word_of ws ss) (by s.forward) (word_of-letters n c ws h ss (λ t i. r t (there i)))
+    letters-append c (step_word ws s) (word_of ws ss) (by s.forward) (word_of-letters n c ws h ss (λ t i. r t (there i)))
   where
-    by : (b : Bool) → AreOf c (cond b (word_at ws s.edge) (inverted (word_at ws s.edge)))
+    by : (b : Bool) → AreLetters c (cond b (word_at ws s.edge) (inverted (word_at ws s.edge)))
     by true = h s.edge (r s here)
-    by false = of-inverted c (word_at ws s.edge) (h s.edge (r s here))
+    by false = letters-inverted c (word_at ws s.edge) (h s.edge (r s here))
 
 pub word_of-are_letters : (n : ℕ) (ws : List (List ℤ)) → ((e : ℕ) → InRange n e → are_letters (word_at ws e) ≡ true) → (ss : List Step) → AreWithin n ss → are_letters (word_of ws ss) ≡ true
 word_of-are_letters n ws h [] r = refl
@@ -81,23 +81,19 @@ module _ (law : CyclesGoRound) (space : List (List (List ℕ))) (pairs : List Pa
   -- the words after the first pairs
   record Stage (done : List Pair) (ws : List (List ℤ)) : Type 0 where
     pub long : length ws ≡ count space 1
-    pub letters : (e : ℕ) → InRange (count space 1) e → AreOf (columns_of space pairs) (word_at ws e)
+    pub letters : (e : ℕ) → InRange (count space 1) e → AreLetters (columns_of space pairs) (word_at ws e)
     pub short : (e : ℕ) → InRange (count space 1) e → is_reduced (word_at ws e) ≡ true
     pub kept : (e : ℕ) → InRange (count space 1) e → ((p : Pair) → In p done → p.dim ≡ 1 → p.lower ≡ e → ⊥) → word_at ws e ≡ first_word space pairs e
     pub closed : (p : Pair) → In p done → p.dim ≡ 1 → reduced (word_of ws (cycle space p.upper)) ≡ []
 
   -- ---- at the beginning
 
-  first-letters : (e : ℕ) → AreOf (columns_of space pairs) (first_word space pairs e)
+  first-letters : (e : ℕ) → AreLetters (columns_of space pairs) (first_word space pairs e)
   first-letters e = by (holds (critical_edges space pairs) e) refl
     where
-      by : (b : Bool) → holds (critical_edges space pairs) e ≡ b → AreOf (columns_of space pairs) (cond b (pos (back (critical_edges space pairs) e) ∷ []) [])
-      by true k g i =
-          elim (In-cases i) [
-            | inl x ↦ subst (λ (h : ℤ). InRange (columns_of space pairs) (generator h)) (sym x) (back-range (critical_edges space pairs) e (holds-In (critical_edges space pairs) k))
-            | inr j ↦ elim j [ ]
-          ]
-      by false k g i = elim i [ ]
+      by : (b : Bool) → holds (critical_edges space pairs) e ≡ b → AreLetters (columns_of space pairs) (cond b (pos (back (critical_edges space pairs) e) ∷ []) [])
+      by true k = (back-range (critical_edges space pairs) e (holds-In (critical_edges space pairs) k), tt)
+      by false k = tt
 
   first-short : (e : ℕ) → is_reduced (first_word space pairs e) ≡ true
   first-short e = by (holds (critical_edges space pairs) e)
@@ -112,7 +108,7 @@ module _ (law : CyclesGoRound) (space : List (List (List ℕ))) (pairs : List Pa
   begun : Stage [] (map (first_word space pairs) (upto (count space 1)))
   begun = record {
     long = length-map-range_with_len (first_word space pairs) 1 (count space 1);
-    letters = λ e r. subst (AreOf (columns_of space pairs)) (sym (first-word e r)) (first-letters e);
+    letters = λ e r. subst (AreLetters (columns_of space pairs)) (sym (first-word e r)) (first-letters e);
     short = λ e r. ap is_reduced (first-word e r) ∙ first-short e;
     kept = λ e r n. first-word e r;
     closed = λ p i. elim i [ ];
@@ -139,7 +135,7 @@ module _ (law : CyclesGoRound) (space : List (List (List ℕ))) (pairs : List Pa
     around : List ℤ
     around = word_of ws (c.last ++ c.first)
 
-    around-letters : AreOf (columns_of space pairs) around
+    around-letters : AreLetters (columns_of space pairs) around
     unfolding around
     around-letters =
         word_of-letters (count space 1) (columns_of space pairs) ws h.letters (c.last ++ c.first)
@@ -152,11 +148,11 @@ module _ (law : CyclesGoRound) (space : List (List (List ℕ))) (pairs : List Pa
     unfolding new around
     new-is = ap (λ (r : Bool × List Step). reduced (cond r.0 (inverted (word_of ws r.1)) (word_of ws r.1))) (c.round [])
 
-    new-letters : AreOf (columns_of space pairs) new
-    new-letters = subst (AreOf (columns_of space pairs)) (sym new-is) (of-reduced (columns_of space pairs) (cond c.itself.forward (inverted around) around) (by c.itself.forward))
+    new-letters : AreLetters (columns_of space pairs) new
+    new-letters = subst (AreLetters (columns_of space pairs)) (sym new-is) (letters-reduced (columns_of space pairs) (cond c.itself.forward (inverted around) around) (by c.itself.forward))
       where
-        by : (b : Bool) → AreOf (columns_of space pairs) (cond b (inverted around) around)
-        by true = of-inverted (columns_of space pairs) around around-letters
+        by : (b : Bool) → AreLetters (columns_of space pairs) (cond b (inverted around) around)
+        by true = letters-inverted (columns_of space pairs) around around-letters
         by false = around-letters
 
     new-short : is_reduced new ≡ true
@@ -181,7 +177,7 @@ module _ (law : CyclesGoRound) (space : List (List (List ℕ))) (pairs : List Pa
       where
         by : (b : Bool) → cond b (reduced (cond b (inverted around) around)) (inverted (reduced (cond b (inverted around) around))) ≡ reduced (inverted around)
         by true = refl
-        by false = sym (reduced_inverted around (of-letters (columns_of space pairs) around around-letters))
+        by false = sym (reduced_inverted around (letters-are (columns_of space pairs) around around-letters))
 
     put-rest : (ss : List Step) → AreWithin (count space 1) ss → ((t : Step) → In t ss → t.edge ≡ p.lower → ⊥) → word_of put ss ≡ word_of ws ss
     put-rest ss r n = word_of-agree put ws ss (λ t j. put-other t.edge (r t j) (n t j))
@@ -198,7 +194,7 @@ module _ (law : CyclesGoRound) (space : List (List (List ℕ))) (pairs : List Pa
         ∙ round-closed (word_of ws c.first) (word_of ws c.last) (ok c.first first_in) (ok c.last last_in))))))
       where
         ok : (ss : List Step) → AreWithin (count space 1) ss → are_letters (word_of ws ss) ≡ true
-        ok ss r = of-letters (columns_of space pairs) (word_of ws ss) (word_of-letters (count space 1) (columns_of space pairs) ws h.letters ss r)
+        ok ss r = letters-are (columns_of space pairs) (word_of ws ss) (word_of-letters (count space 1) (columns_of space pairs) ws h.letters ss r)
 
     -- the uppers of earlier pairs close as before
     earlier-closes : (q : Pair) → In q done → q.dim ≡ 1 → reduced (word_of put (cycle space q.upper)) ≡ []
@@ -228,7 +224,7 @@ module _ (law : CyclesGoRound) (space : List (List (List ℕ))) (pairs : List Pa
     unfolding put
     put-stage = record {
       long = length-set ws (p.lower - 1) new ∙ h.long;
-      letters = put-each (AreOf (columns_of space pairs)) h.letters new-letters;
+      letters = put-each (AreLetters (columns_of space pairs)) h.letters new-letters;
       short = put-each (λ w. is_reduced w ≡ true) h.short new-short;
       kept = λ e r n. put-other e r (λ x. n p (In-last done p) d (sym x)) ∙ h.kept e r (λ q j k x. n q (In-left (p ∷ []) j) k x);
       closed = λ q j k. elim (push-In done p j) [ inl i ↦ earlier-closes q i k | inr x ↦ rw x put-closes ];
@@ -273,7 +269,7 @@ module _ (law : CyclesGoRound) (space : List (List (List ℕ))) (pairs : List Pa
   pub words-long : length (words space pairs) ≡ count space 1
   words-long = finished.long
 
-  pub words-letters : (e : ℕ) → InRange (count space 1) e → AreOf (columns_of space pairs) (word_at (words space pairs) e)
+  pub words-letters : (e : ℕ) → InRange (count space 1) e → AreLetters (columns_of space pairs) (word_at (words space pairs) e)
   words-letters = finished.letters
 
   pub words-short : (e : ℕ) → InRange (count space 1) e → is_reduced (word_at (words space pairs) e) ≡ true
