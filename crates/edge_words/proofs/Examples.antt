@@ -1,12 +1,12 @@
 -- The words of small spaces, by the definitions.
-use Rattle.std.proofs.Common.{◌≡◌, ℕ, List, [], ◌∷◌, true, false, Some, None, refl}
-use Rattle.std.specs.Prelude.{ℤ, pos, negsuc, replicate}
+use Rattle.std.proofs.Common.{◌≡◌, List, [], ◌∷◌, true, false, Some, None, refl}
+use Rattle.std.specs.Prelude.{pos, negsuc}
 use Rattle.face_poset.specs.declared.cells.Pair.{Pair}
 use Rattle.face_poset.specs.Poset.{Layers}
 use Rattle.face_poset.specs.Below.{cell_at}
 use Rattle.vector_field.specs.Pairs.{pair}
 use Rattle.sheet_laws.specs.Lifts.{critical_edges}
-use Rattle.edge_words.specs.Words.{words, relators, Presented, presentation_of}
+use Rattle.edge_words.specs.Words.{words, relators, presentation_of}
 use Rattle.edge_words.specs.Limits.{first_long, too_long}
 use Rattle.edge_words.specs.Labels.{labels_of, satisfies}
 

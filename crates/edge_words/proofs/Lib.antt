@@ -1,5 +1,15 @@
 pub mod CallerLemmas
 mod WordPlaces
+mod Bits
+mod Letters
+mod Turned
+mod Steps
+mod Along
+mod Forced
+mod Counted
+mod Led
+mod Own
+mod Stages
 mod Examples
 mod FreeWords
 mod Ranges

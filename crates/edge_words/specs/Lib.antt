@@ -1,11 +1,14 @@
 -- What the contracts mean: Words, Limits, Labels and Laws.
--- What the code keeps for itself: Places.
+-- What the code keeps for itself: Places, Reducing, Counting and Moves.
 -- Words of lower crates that these speak of stand at the end.
 pub mod Words
 pub mod Limits
 pub mod Labels
 pub mod Laws
 pub mod Places
+pub mod Reducing
+pub mod Counting
+pub mod Moves
 pub use Rattle.pair_laws.specs.Letters
 pub use Rattle.sheet_laws.specs.Tables
 pub use Rattle.sheet_laws.specs.Labellings

@@ -8,12 +8,20 @@
 #![tactic(auto)]
 
 mod fault;
+mod label_list;
+mod labelling;
 mod laws;
+mod moves;
 mod presentation;
+mod presenting;
+mod reducing;
 mod word_list;
 
 pub use fault::WordFault;
+pub use label_list::Labels;
+pub use labelling::labels;
 pub use laws::{
     forced_words_are_the_only_ones, labels_are_the_lift, lifts_are_labellings, walks_follow_words,
 };
 pub use presentation::Presentation;
+pub use presenting::present;

@@ -33,6 +33,21 @@ impl Model for Presentation {
 }
 
 impl Presentation {
+    /// The presentation by these generators and relators, with these words of edges.
+    pub(crate) fn new(generators: Vec<u32>, relators: WordList, words: WordList) -> Presentation
+        requires generators { length generators.items ≤ 60000 }
+        requires few { length relators ≤ 60000 }
+        requires relators { All (AreLetters (length generators.items)) relators }
+        requires words { All (AreLetters (length generators.items)) words }
+        ensures { result ≡ record { generators = generators.items; relators = relators; words = words } }
+    {
+        Presentation {
+            generators,
+            relators,
+            words,
+        }
+    }
+
     /// The critical edges, in increasing order: generator g is the g-th of them.
     pub fn generators(&self) -> &[u32]
         ensures generators { result.now ≡ self.now.generators }
