@@ -1,0 +1,9 @@
+mod Placing
+mod Walking
+mod Raising
+mod Passages
+mod Indexing
+mod Trying
+mod Advancing
+mod Units
+mod Resuming
