@@ -1,8 +1,8 @@
 -- Words along the pairs of a field: how many there are, their letters, and that a word stays once its pair has passed.
-use Rattle.std.proofs.Common.{◌≡◌, ℕ, ◌+◌, ◌-◌, ◌<◌, ◌≤◌, List, [], ◌∷◌, ◌++◌, map, filter, length, set, get_or, take, All, refl, ap, sym, ◌∙◌, arith, Bool, true, false, cond, inl, inr, ◌⊎◌}
+use Rattle.std.proofs.Common.{◌≡◌, ℕ, ◌+◌, ◌-◌, ◌<◌, ◌≤◌, List, [], ◌∷◌, ◌++◌, map, filter, length, set, get_or, take, All, refl, ap, ◌∙◌, arith, Bool, true, false, cond, inl, inr, ◌⊎◌}
 use Rattle.std.specs.Prelude.{ℤ, ◌==◌}
 use Rattle.std.proofs.lemmas.Bool.{eqb-true, cases_lt}
-use Rattle.std.proofs.lemmas.List.{length-set, get_or-set_other, get_or_past, map-append, append_assoc, append-nil, take_more}
+use Rattle.std.proofs.lemmas.List.{length-set, get_or-set_other, get_or_past, map-append, append-nil, take_more}
 use Rattle.std.proofs.lemmas.List.Elements.{All-set, filter-append}
 use Rattle.number_lists.specs.Members.{In, here, there}
 use Rattle.face_poset.specs.declared.cells.Pair.{Pair}
@@ -15,13 +15,10 @@ use Rattle.sheet_laws.specs.Lifts.{round_from}
 use Rattle.live_laws.specs.Walks.{AreLetters}
 use Rattle.edge_words.specs.Words.{word_at, step_word, word_of, forced_word, words_from}
 use Rattle.edge_words.specs.Limits.{edge_words}
-use Rattle.edge_words.proofs.Letters.{letters-append, letters-inverted, letters-reduced}
+use Rattle.edge_words.proofs.LetterWalks.{letters-append, letters-inverted, letters-reduced}
+use Rattle.edge_words.proofs.WordStages.{word_of-append}
 
--- the words of steps, one part after another
-pub word_of-append : (ws : List (List ℤ)) (xs ys : List Step) → word_of ws (xs ++ ys) ≡ word_of ws xs ++ word_of ws ys
-word_of-append ws [] ys = refl
-word_of-append ws (s ∷ xs) ys = ap (λ (w : List ℤ). step_word ws s ++ w) (word_of-append ws xs ys) ∙ sym (append_assoc (step_word ws s) (word_of ws xs) (word_of ws ys))
-
+-- the words of steps, one step more
 pub word_of-more : (ws : List (List ℤ)) (ss : List Step) (i : ℕ) (d : Step) → i < length ss → word_of ws (take (i + 1) ss) ≡ word_of ws (take i ss) ++ step_word ws (get_or ss i d)
 word_of-more ws ss i d l =
     ap (word_of ws) (take_more ss i d l)

@@ -8,11 +8,7 @@ use mir.Val.{of_z, to_z}
 use Rattle.pair_laws.specs.Letters.{inverse, same_letter}
 use Rattle.sheet_laws.specs.Permutations.{InRange}
 use Rattle.live_laws.specs.Walks.{generator}
-
-pub generator-inverse : (g : ℤ) → generator (inverse g) ≡ generator g
-generator-inverse (pos zero) = refl
-generator-inverse (pos (suc n)) = refl
-generator-inverse (negsuc n) = refl
+use Rattle.edge_words.proofs.LetterWalks.{generator-inverse}
 
 pub minus-inverse : (g : ℤ) → pos 0 -ℤ g ≡ inverse g
 minus-inverse (pos zero) = refl

@@ -9,8 +9,10 @@ use Rattle.sheet_laws.specs.Lifts.{round_from}
 use Rattle.live_laws.specs.Walks.{AreLetters}
 use Rattle.edge_words.specs.Words.{word_of, forced_word}
 use Rattle.edge_words.specs.Reducing.{AreWords, IsWord, place_in}
-use Rattle.edge_words.proofs.Letters.{letters-are, reduced-then, word-then}
-use Rattle.edge_words.proofs.Along.{letters-word_of, word_of-append}
+use Rattle.edge_words.proofs.Letters.{reduced-then, word-then}
+use Rattle.edge_words.proofs.LetterWalks.{letters-are}
+use Rattle.edge_words.proofs.Along.{letters-word_of}
+use Rattle.edge_words.proofs.WordStages.{word_of-append}
 use Rattle.edge_words.proofs.Steps.{round-place}
 
 module _ (ws : List (List ℤ)) (ss : List Step) (e : ℕ) (d : Step) (words : AreWords ws) (there : holds (map (λ (s : Step). s.edge) ss) e ≡ true) where

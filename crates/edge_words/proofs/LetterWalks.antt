@@ -19,12 +19,12 @@ use Rattle.edge_words.proofs.FreeWords.{inverted-twice}
 
 -- ---- letters of some generators
 
-generator-inverse : (g : ℤ) → generator (inverse g) ≡ generator g
+pub generator-inverse : (g : ℤ) → generator (inverse g) ≡ generator g
 generator-inverse (pos zero) = refl
 generator-inverse (pos (suc g)) = refl
 generator-inverse (negsuc g) = refl
 
-letter-is : (c : ℕ) (g : ℤ) → InRange c (generator g) → is_letter g ≡ true
+pub letter-is : (c : ℕ) (g : ℤ) → InRange c (generator g) → is_letter g ≡ true
 letter-is c (pos zero) h = absurd (omega (arith, h.0))
 letter-is c (pos (suc n)) h = refl
 letter-is c (negsuc n) h = refl

@@ -1,54 +1,20 @@
 -- Letters in range, and words that are reduced part by part.
-use Rattle.std.proofs.Common.{◌≡◌, ℕ, zero, suc, ◌+◌, ◌-◌, ◌<◌, ◌≤◌, List, [], ◌∷◌, ◌++◌, length, set, take, get_or, reverse, map, refl, ap, sym, ◌∙◌, arith, Bool, true, false, Some}
-use Rattle.std.specs.Prelude.{ℤ, pos, negsuc, slice_get}
+use Rattle.std.proofs.Common.{◌≡◌, ℕ, zero, suc, ◌+◌, ◌-◌, ◌<◌, ◌≤◌, List, [], ◌∷◌, ◌++◌, length, set, take, get_or, reverse, map, refl, ap, sym, ◌∙◌, arith, true, false, Some}
+use Rattle.std.specs.Prelude.{ℤ, slice_get}
 use Rattle.std.proofs.lemmas.List.{append-nil, append_assoc, map-append, reverse-append, length-map, length-reverse, take_more, get_or-map, get_or-reverse}
-use Rattle.pair_laws.specs.Letters.{inverse, same_letter, before, reduced, inverted, is_letter, are_letters, is_reduced, last_undone, drop_last}
-use Rattle.pair_laws.proofs.CallerLemmas.{reduced_is, stays_reduced, reduced_append, after_is, are_letters-reduced}
+use Rattle.pair_laws.specs.Letters.{inverse, same_letter, reduced, inverted, is_letter, is_reduced, last_undone, drop_last}
+use Rattle.pair_laws.proofs.CallerLemmas.{reduced_is, stays_reduced, after_is}
 use Rattle.sheet_laws.specs.Permutations.{InRange}
 use Rattle.live_laws.specs.Walks.{generator, AreLetters}
 use Rattle.edge_words.specs.Reducing.{IsWord}
-use Rattle.edge_words.proofs.Bits.{generator-inverse}
-
-pub letter-is : (c : ℕ) (g : ℤ) → InRange c (generator g) → is_letter g ≡ true
-letter-is c (pos zero) h = absurd (omega (arith, h.0))
-letter-is c (pos (suc n)) h = refl
-letter-is c (negsuc n) h = refl
-
-pub letters-are : (c : ℕ) (w : List ℤ) → AreLetters c w → are_letters w ≡ true
-letters-are c [] h = refl
-letters-are c (g ∷ w) h = rw (letter-is c g h.0) (letters-are c w h.1)
-
-pub letters-append : (c : ℕ) (u v : List ℤ) → AreLetters c u → AreLetters c v → AreLetters c (u ++ v)
-letters-append c [] v h k = k
-letters-append c (g ∷ u) v h k = (h.0, letters-append c u v h.1 k)
-
-letters-before : (c : ℕ) (g : ℤ) (w : List ℤ) → InRange c (generator g) → AreLetters c w → AreLetters c (before g w)
-letters-before c g [] r h = (r, tt)
-letters-before c g (x ∷ w) r h = by (same_letter x (inverse g)) refl
-  where
-    by : (b : Bool) → same_letter x (inverse g) ≡ b → AreLetters c (before g (x ∷ w))
-    by true e = rw e h.1
-    by false e = rw e (r, h)
-
-pub letters-reduced : (c : ℕ) (w : List ℤ) → AreLetters c w → AreLetters c (reduced w)
-letters-reduced c [] h = tt
-letters-reduced c (g ∷ w) h = letters-before c g (reduced w) h.0 (letters-reduced c w h.1)
-
-pub letters-inverted : (c : ℕ) (w : List ℤ) → AreLetters c w → AreLetters c (inverted w)
-letters-inverted c [] h = tt
-letters-inverted c (g ∷ w) h = letters-append c (inverted w) (inverse g ∷ []) (letters-inverted c w h.1) (rw (generator-inverse g) h.0, tt)
+use Rattle.edge_words.proofs.LetterWalks.{letters-are, letters-append, letters-reduced}
+use Rattle.edge_words.proofs.FreeWords.{reduced-left}
 
 pub letters-wider : (c d : ℕ) (w : List ℤ) → c ≤ d → AreLetters c w → AreLetters d w
 letters-wider c d [] l h = tt
 letters-wider c d (g ∷ w) l h = ((h.0.0, omega (arith, h.0.1, l)), letters-wider c d w l h.1)
 
 -- ---- reduced words
-
--- what is reduced so far may stand for what came
-pub reduced-more : (u v : List ℤ) → are_letters u ≡ true → reduced (reduced u ++ v) ≡ reduced (u ++ v)
-reduced-more u v l =
-    reduced_append (reduced u) v (are_letters-reduced u l)
-    ∙ (ap (λ (x : List ℤ). reduced (x ++ reduced v)) (stays_reduced (reduced u) (reduced_is u)) ∙ sym (reduced_append u v l))
 
 pub word-reduced : (w : List ℤ) → AreLetters 60000 w → IsWord (reduced w)
 word-reduced w h = record { letters = letters-reduced 60000 w h; is = reduced_is w }
@@ -58,7 +24,7 @@ pub reduced-then : (first xs ys w v : List ℤ) → AreLetters 60000 first → A
 reduced-then first xs ys w v f x e d =
     d
     ∙ (ap (λ (u : List ℤ). reduced (u ++ ys)) e
-    ∙ (reduced-more (first ++ xs) ys (letters-are 60000 (first ++ xs) (letters-append 60000 first xs f x)) ∙ ap reduced (append_assoc first xs ys)))
+    ∙ (reduced-left (first ++ xs) ys (letters-are 60000 (first ++ xs) (letters-append 60000 first xs f x)) ∙ ap reduced (append_assoc first xs ys)))
 
 pub word-then : (first xs w : List ℤ) → AreLetters 60000 first → AreLetters 60000 xs → w ≡ reduced (first ++ xs) → IsWord w
 word-then first xs w f x e = rw e (word-reduced (first ++ xs) (letters-append 60000 first xs f x))

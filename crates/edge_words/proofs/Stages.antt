@@ -25,7 +25,8 @@ use Rattle.edge_words.specs.declared.fault.WordFault.{WordFault}
 use Rattle.edge_words.specs.Limits.{edge_words, first_long, IsFault}
 use Rattle.edge_words.specs.Counting.{IsCounted}
 use Rattle.edge_words.specs.Reducing.{AreWords, AreSteps}
-use Rattle.edge_words.proofs.Letters.{letters-wider, letters-reduced}
+use Rattle.edge_words.proofs.Letters.{letters-wider}
+use Rattle.edge_words.proofs.LetterWalks.{letters-reduced}
 use Rattle.edge_words.proofs.Counted.{counted-append, fault-next}
 use Rattle.edge_words.proofs.Along.{letters-word_of, words_from-append, length-words_from, letters-words_from, word-kept, edge_words-append}
 use Rattle.edge_words.proofs.Own.{own-letters}

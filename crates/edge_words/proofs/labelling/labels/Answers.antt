@@ -5,7 +5,9 @@ use Rattle.sheet_tables.specs.Tables.{Rows}
 use Rattle.live_laws.specs.Walks.{AreLetters}
 use Rattle.edge_words.specs.Words.{Presented}
 use Rattle.edge_words.specs.Labels.{label_of, Labelled, labelled_by, IsRepresentation, IsLabel}
+use Rattle.edge_words.specs.Laws.{IsLabellingAt}
 use Rattle.edge_words.proofs.Led.{labels-are}
+use Rattle.edge_words.proofs.Representations.{represented}
 use Rattle.edge_words.proofs.labelling.labels.Goals as goal
 
 -- one label more
@@ -40,7 +42,14 @@ new-requires-2-clause-labels c =
 whole : (p : Presented) (t : Rows) (v : Labelled) (m : ℕ) (labels : List (List ℕ)) → v ≡ record { sheets = m; labels = labels } → m ≡ t.sheets → labels ≡ map (label_of t.columns t.sheets t.cells) p.words → v ≡ labelled_by p t
 whole p t v m labels e s h = rw (s, h) at e
 
-pub returns : goal.returns
-returns c =
+pub returns-clause-labels : goal.returns-clause-labels
+returns-clause-labels c =
     whole c.args.presentation.now c.args.table.now c.new-2.result c.sheets.result c.loop-index.labels c.new-2.ensures c.sheets.ensures.sheets
     (labels-all c.args.table.now c.args.presentation.now.words c.words-words.result.now c.loop-index.index c.loop-index.labels c.words-words.ensures.words (omega (arith, c.loop-index-test.false, c.len-index-end.ensures)) c.loop-index.invariant)
+
+pub returns-clause-labelling : goal.returns-clause-labelling
+returns-clause-labelling c =
+    subst (IsLabellingAt c.args.presentation.now)
+    (sym (whole c.args.presentation.now c.args.table.now c.new-2.result c.sheets.result c.loop-index.labels c.new-2.ensures c.sheets.ensures.sheets
+    (labels-all c.args.table.now c.args.presentation.now.words c.words-words.result.now c.loop-index.index c.loop-index.labels c.words-words.ensures.words (omega (arith, c.loop-index-test.false, c.len-index-end.ensures)) c.loop-index.invariant)))
+    (represented c.labels_are_the_lift.ensures c.lifts_are_labellings.ensures c.args.presentation.now c.args.table.now c.sheets.ensures.valid.some_sheet c.requires)

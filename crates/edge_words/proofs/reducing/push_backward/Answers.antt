@@ -3,7 +3,8 @@ use Rattle.std.specs.Prelude.{ℤ, pos}
 use Rattle.std.proofs.lemmas.List.{take_all}
 use Rattle.pair_laws.specs.Letters.{inverse, inverted, reduced}
 use Rattle.edge_words.proofs.Bits.{negated-fits, handed, inverse-range}
-use Rattle.edge_words.proofs.Letters.{reduced-none, reduced-then, word-then, letters-take, letters-inverted, letter-at, inverted-more, length-inverted}
+use Rattle.edge_words.proofs.Letters.{reduced-none, reduced-then, word-then, letters-take, letter-at, inverted-more, length-inverted}
+use Rattle.edge_words.proofs.LetterWalks.{letters-inverted}
 use Rattle.edge_words.proofs.reducing.push_backward.Goals as goal
 
 pub loop-index-init : goal.loop-index-init

@@ -4,7 +4,8 @@ use Rattle.std.proofs.lemmas.Int.{to_z-of_z}
 use mir.Syntax.{w32}
 use mir.Val.{of_z, to_z}
 use Rattle.pair_laws.specs.Letters.{last_undone}
-use Rattle.edge_words.proofs.Letters.{letter-is, letter-undone, letter-put}
+use Rattle.edge_words.proofs.Letters.{letter-undone, letter-put}
+use Rattle.edge_words.proofs.LetterWalks.{letter-is}
 use Rattle.edge_words.proofs.reducing.push_letter.Goals as goal
 
 undone-read : (w v : List ℤ) (g : ℤ) → FitsSigned w32 g → v ≡ w → last_undone w g ≡ last_undone v (to_z w32 (of_z w32 g))
