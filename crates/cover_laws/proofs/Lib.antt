@@ -1,7 +1,12 @@
 mod Carrying
+mod CoverParts
+mod EachClass
 mod Families
 mod Gauge
 mod Isomorphisms
+mod Listings
+mod NoColumns
 mod Renumbered
 mod Roots
 mod TreeTurns
+mod WholeTables

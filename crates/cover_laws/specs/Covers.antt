@@ -1,9 +1,11 @@
--- The covers of a space as tables: those of which the lift is a connected labelling and that no renumbering makes smaller, in order. space is
--- the lists of a space, pairs those of a field, n the most sheets, t a position: the sheets, and cells row by row.
+-- The covers of a space as tables: those of which the lift is a connected labelling and that no renumbering makes
+-- smaller, in order. space is the lists of a space, pairs those of a field, m a number of sheets, n the most sheets, t a
+-- position: the sheets, and cells row by row.
+--   relations_at space pairs       the relations of the presentation along the field
 --   covers_of space pairs m        the covers of m sheets among all lists of cells, in order
 --   covers space pairs n           those of 1 to n sheets
 --   covers_after space pairs n t   those of them that come after t
---   CanStart P n t                t is the start, or a live partial table of at most n sheets
+--   CanStart P n t                 t is the start, or a live partial table of at most n sheets
 use Rattle.std.specs.Prelude.{◌≡◌, ◌⊎◌, ℕ, ◌*◌, List, [], map, filter, true}
 use Rattle.std.specs.List.{flat_map}
 use Rattle.number_lists.specs.Words.{upto}
@@ -12,6 +14,10 @@ use Rattle.face_poset.specs.Poset.{Layers}
 use Rattle.sheet_laws.specs.Permutations.{InRange, lists}
 use Rattle.sheet_laws.specs.Lifts.{columns_of, is_cover}
 use Rattle.live_laws.specs.Live.{Relations, Position, is_live, comes_after}
+use Rattle.edge_words.specs.Words.{presentation_of, relations_of}
+
+abbrev pub relations_at : Layers → List Pair → Relations
+relations_at space pairs = relations_of (presentation_of space pairs)
 
 abbrev pub covers_of : Layers → List Pair → (m : ℕ) → List Position
 covers_of space pairs m =

@@ -1,4 +1,5 @@
--- All of these are meaning for contracts; no code stands here. Words of lower crates that these speak of stand at the end.
+-- All of these are meaning for contracts; no code stands here. Words of lower crates that these speak of stand at the
+-- end.
 pub mod Covers
 pub mod Laws
 pub use Rattle.sheet_laws.specs.Tables

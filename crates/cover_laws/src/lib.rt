@@ -8,7 +8,8 @@
 #![tactic(auto)]
 
 ghost use Rattle.cover_laws.specs.Laws.{LabellingsAreGauged, IsomorphicIsEquivalence};
-ghost use Rattle.cover_laws.specs.Laws.{IsomorphicLiftsAreRenumbered, ColumnsAreFew};
+ghost use Rattle.cover_laws.specs.Laws.{IsomorphicLiftsAreRenumbered, ListedAreCovers};
+ghost use Rattle.cover_laws.specs.Laws.{EachClassOnce, ColumnsAreFew};
 
 /// Each labelling is isomorphic to the lift of a table, which is connected if it was; and isomorphic is
 /// an equivalence.
@@ -22,6 +23,25 @@ pub fn labellings_are_gauged()
 /// The lifts of two tables are isomorphic exactly where one table is a renumbering of the other.
 pub fn isomorphic_lifts_are_renumbered()
     ensures { IsomorphicLiftsAreRenumbered }
+{
+    regular_check::cycles_go_round();
+    regular_check::components_are_numbered();
+}
+
+/// The listed tables of the presentation along a good field, after the start or after a live partial
+/// table, are the covers after it, in the same order.
+pub fn listed_are_covers()
+    ensures { ListedAreCovers }
+{
+    regular_check::cycles_go_round();
+    regular_check::components_are_numbered();
+    edge_words::lifts_are_labellings();
+}
+
+/// Each connected labelling of at most so many sheets is isomorphic to the lift of exactly one of the
+/// covers.
+pub fn each_class_once()
+    ensures { EachClassOnce }
 {
     regular_check::cycles_go_round();
     regular_check::components_are_numbered();
