@@ -16,7 +16,7 @@ use Rattle.live_laws.specs.Walks.{AreLetters}
 use Rattle.edge_words.specs.Words.{word_at, step_word, word_of, forced_word, words_from}
 use Rattle.edge_words.specs.Limits.{edge_words}
 use Rattle.edge_words.proofs.LetterWalks.{letters-append, letters-inverted, letters-reduced}
-use Rattle.edge_words.proofs.WordStages.{word_of-append}
+use Rattle.edge_words.proofs.StepWords.{word_of-append}
 
 -- the words of steps, one step more
 pub word_of-more : (ws : List (List ℤ)) (ss : List Step) (i : ℕ) (d : Step) → i < length ss → word_of ws (take (i + 1) ss) ≡ word_of ws (take i ss) ++ step_word ws (get_or ss i d)

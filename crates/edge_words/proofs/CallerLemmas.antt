@@ -18,11 +18,14 @@ pub use Rattle.edge_words.proofs.LetterWalks.{home-is, satisfied-is}
 -- ---- the words of edges
 
 -- words of steps: joined, of words that agree, their letters
-pub use Rattle.edge_words.proofs.WordStages.{word_of-append, word_of-agree, word_of-letters, word_of-are_letters}
+pub use Rattle.edge_words.proofs.StepWords.{word_of-append, word_of-agree}
+pub use Rattle.edge_words.proofs.Along.{letters-word_at, letters-word_of}
 -- what holds of the word of each edge holds of each word
-pub use Rattle.edge_words.proofs.WordStages.{each-word}
--- the words of edges: how many, their letters, reduced; those of paired and of critical edges
-pub use Rattle.edge_words.proofs.WordStages.{words-long, words-letters, words-short, words-close, tree-word, critical-word}
+pub use Rattle.edge_words.proofs.StepWords.{each-word}
+-- the words of edges: how many, their letters, and those of the relators
+pub use Rattle.edge_words.proofs.WordLetters.{words-long, words-letters, relators-letters}
+-- they are reduced; those of paired and of critical edges
+pub use Rattle.edge_words.proofs.WordStages.{words-short, words-close, tree-word, critical-word}
 -- they are forced, and no others are; nor does another reduced word at one pair close the round of its 2-cell
 pub use Rattle.edge_words.proofs.ForcedWords.{words-forced, words-one, words-only}
 -- ---- labels by words
@@ -31,13 +34,13 @@ pub use Rattle.edge_words.proofs.ForcedWords.{words-forced, words-one, words-onl
 pub use Rattle.edge_words.proofs.WordLabels.{walk-word, labels-are_lift, lift-walk, lift-walk_short}
 -- ---- 2-cells
 
--- what a 2-cell is to a field, and the induction over all of them
-pub use Rattle.edge_words.proofs.FieldCells.{disk-kinds, over-disks}
+-- the steps of a cycle go along edges of the space; what a 2-cell is to a field, and the induction over all of them
+pub use Rattle.edge_words.proofs.FieldCells.{cycle-within, disk-kinds, over-disks}
 -- labels that close round all 2-cells of a 3-cell but one close round it, and those that close round the critical ones, and round those that
--- are paired with an edge, close round all; the steps of a cycle are steps of the space
-pub use Rattle.edge_words.proofs.LastFaces.{cycle-within, last-closes}
+-- are paired with an edge, close round all
+pub use Rattle.edge_words.proofs.LastFaces.{last-closes}
 pub use Rattle.edge_words.proofs.LiftLabels.{all-close}
 -- ---- labellings
 
--- what a labelling is; a lift is one where the relators lead home, and only there; the letters of the relators
-pub use Rattle.edge_words.proofs.LiftLabels.{LabellingParts, labelling-parts, labelling-from, to-relators, from-relators, relators-letters}
+-- what a labelling is; a lift is one where the relators lead home, and only there
+pub use Rattle.edge_words.proofs.LiftLabels.{LabellingParts, labelling-parts, labelling-from, to-relators, from-relators}

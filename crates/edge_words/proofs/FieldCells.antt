@@ -1,4 +1,4 @@
--- What a valid field does with cells: where the two cells of a pair are, what a 2-cell is, and the induction over all 2-cells.
+-- Where the two cells of a pair are, and the steps of a cycle; what a valid field does with a 2-cell, and the induction over all 2-cells.
 use Rattle.std.proofs.Common.{◌≡◌, ◌⊎◌, inl, inr, ℕ, ◌+◌, ◌≤◌, List, refl, arith, sym, ◌∙◌, subst, Bool, true, false}
 use Rattle.std.specs.Prelude.{◌==◌, not}
 use Rattle.std.specs.List.{list_any}
@@ -7,23 +7,42 @@ use Rattle.number_lists.specs.Members.{In}
 use Rattle.number_lists.proofs.CallerLemmas.{In-filter, In-inside, any-In, In-upto}
 use Rattle.face_poset.specs.declared.cells.Pair.{Pair}
 use Rattle.face_poset.specs.Poset.{count, facets_of, IsSpace}
-use Rattle.vector_field.specs.Pairs.{has_lower, is_used, others, unpaired, IsValid}
-use Rattle.vector_field.proofs.CallerLemmas.{lined-from, used-some, has_lower-from, Incident, incident-true, facet-range, along-field}
+use Rattle.regular_check.specs.Rules.{IsRegular}
+use Rattle.regular_check.specs.Cycle.{cycle, CyclesGoRound}
+use Rattle.vector_field.specs.Pairs.{has_lower, is_used, is_incident, others, unpaired, IsValid}
+use Rattle.vector_field.proofs.CallerLemmas.{lined-from, used-some, has_lower-from, incident-true, facet-range, along-field}
 use Rattle.sheet_laws.specs.Permutations.{InRange}
-use Rattle.sheet_laws.proofs.CallerLemmas.{HasPair}
+use Rattle.sheet_laws.proofs.CallerLemmas.{HasPair, AreWithin, round-of}
+
+-- the two cells of a pair
+module _ (space : List (List (List ℕ))) (p : Pair) (k : ℕ) (d : p.dim ≡ k) (i : is_incident space p ≡ true) where
+  pub low-range : InRange (count space k) p.lower
+  low-range = let h = incident-true space p i in (h.first, subst (λ (n : ℕ). p.lower ≤ count space n) d h.last)
+
+  pub high-range : InRange (count space (k + 1)) p.upper
+  high-range = let h = incident-true space p i in (h.upper_first, subst (λ (n : ℕ). p.upper ≤ count space (n + 1)) d h.upper_last)
+
+  pub low-facet : In p.lower (facets_of space (k + 1) p.upper)
+  low-facet = subst (λ (n : ℕ). In p.lower (facets_of space (n + 1) p.upper)) d (incident-true space p i).facet
+
+-- the steps of a cycle go along edges of the space
+pub cycle-within : CyclesGoRound → (space : List (List (List ℕ))) → IsSpace space → IsRegular space → (c : ℕ) → InRange (count space 2) c → AreWithin (count space 1) (cycle space c)
+cycle-within law space is regular c r t i = facet-range space 1 c t.edge is r.0 r.1 ((round-of law space c is regular r).inside t i)
+
+-- ---- the pairs of a field
 
 module _ (space : List (List (List ℕ))) (pairs : List Pair) (valid : IsValid space pairs) where
-  incident : (p : Pair) → In p pairs → Incident space p
-  incident p m = incident-true space p ((lined-from space pairs valid).incident p m)
+  incident : (p : Pair) → In p pairs → is_incident space p ≡ true
+  incident p m = (lined-from space pairs valid).incident p m
 
   pub lower-range : (p : Pair) (k : ℕ) → In p pairs → p.dim ≡ k → InRange (count space k) p.lower
-  lower-range p k i d = let h = incident p i in (h.first, subst (λ (n : ℕ). p.lower ≤ count space n) d h.last)
+  lower-range p k i d = low-range space p k d (incident p i)
 
   pub upper-range : (p : Pair) (k : ℕ) → In p pairs → p.dim ≡ k → InRange (count space (k + 1)) p.upper
-  upper-range p k i d = let h = incident p i in (h.upper_first, subst (λ (n : ℕ). p.upper ≤ count space (n + 1)) d h.upper_last)
+  upper-range p k i d = high-range space p k d (incident p i)
 
   pub lower-facet : (p : Pair) (k : ℕ) → In p pairs → p.dim ≡ k → In p.lower (facets_of space (k + 1) p.upper)
-  lower-facet p k i d = subst (λ (n : ℕ). In p.lower (facets_of space (n + 1) p.upper)) d (incident p i).facet
+  lower-facet p k i d = low-facet space p k d (incident p i)
 
   -- the other facets of an upper
   pub others-In : (p : Pair) (k g : ℕ) → p.dim ≡ k → In g (others space p) → In g (facets_of space (k + 1) p.upper)

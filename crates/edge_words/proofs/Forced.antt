@@ -12,7 +12,7 @@ use Rattle.edge_words.specs.Reducing.{AreWords, IsWord, place_in}
 use Rattle.edge_words.proofs.Letters.{reduced-then, word-then}
 use Rattle.edge_words.proofs.LetterWalks.{letters-are}
 use Rattle.edge_words.proofs.Along.{letters-word_of}
-use Rattle.edge_words.proofs.WordStages.{word_of-append}
+use Rattle.edge_words.proofs.StepWords.{word_of-append}
 use Rattle.edge_words.proofs.Steps.{round-place}
 
 module _ (ws : List (List ℤ)) (ss : List Step) (e : ℕ) (d : Step) (words : AreWords ws) (there : holds (map (λ (s : Step). s.edge) ss) e ≡ true) where

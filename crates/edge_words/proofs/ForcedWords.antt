@@ -18,20 +18,19 @@ use Rattle.pair_laws.proofs.CallerLemmas.{letters_inverted}
 use Rattle.sheet_laws.specs.Permutations.{InRange, at, back}
 use Rattle.sheet_laws.specs.Lifts.{critical_edges, columns_of}
 use Rattle.sheet_laws.proofs.CallerLemmas.{AreWithin, IsCutAt, cut, within, cut-others, back-range, at-back, over-edges}
-use Rattle.live_laws.specs.Walks.{AreLetters}
 use Rattle.edge_words.specs.Words.{word_at, step_word, word_of, words}
 use Rattle.edge_words.specs.Laws.{AreForced, IsOnlyForced}
 use Rattle.edge_words.proofs.FreeWords.{inverted-twice, is_reduced-inverted, round-once}
 use Rattle.edge_words.proofs.FieldCells.{lower-range, others-range}
 use Rattle.edge_words.proofs.LetterWalks.{letters-are}
-use Rattle.edge_words.proofs.WordStages.{each-word, word-same, word-other, word_of-append, word_of-agree, word_of-are_letters, words-long, words-letters, words-short, words-close, tree-word, critical-word}
+use Rattle.edge_words.proofs.StepWords.{each-word, word-same, word-other, word_of-append, word_of-agree, word_of-are_letters}
+use Rattle.edge_words.proofs.Along.{letters-word_at}
+use Rattle.edge_words.proofs.WordLetters.{words-long, words-letters}
+use Rattle.edge_words.proofs.WordStages.{words-short, words-close, tree-word, critical-word}
 
 module _ (law : CyclesGoRound) (space : List (List (List ℕ))) (pairs : List Pair) (is : IsSpace space) (regular : IsRegular space) (valid : IsValid space pairs) where
   long : length (words space pairs) ≡ count space 1
-  long = words-long law space pairs is regular valid
-
-  of : (e : ℕ) → InRange (count space 1) e → AreLetters (columns_of space pairs) (word_at (words space pairs) e)
-  of = words-letters law space pairs is regular valid
+  long = words-long space pairs
 
   short : (e : ℕ) → InRange (count space 1) e → is_reduced (word_at (words space pairs) e) ≡ true
   short = words-short law space pairs is regular valid
@@ -94,7 +93,7 @@ module _ (law : CyclesGoRound) (space : List (List (List ℕ))) (pairs : List Pa
           ∙ inverted-twice v)
 
   ok : (e : ℕ) → InRange (count space 1) e → are_letters (word_at (words space pairs) e) ≡ true
-  ok e r = letters-are (columns_of space pairs) (word_at (words space pairs) e) (of e r)
+  ok e r = letters-are (columns_of space pairs) (word_at (words space pairs) e) (letters-word_at (columns_of space pairs) (words space pairs) e (words-letters space pairs))
 
   apart : (p : Pair) (x : ℕ) → In x (others space p) → x ≡ p.lower → ⊥
   apart p x j e = not-itself space p (subst (λ (y : ℕ). In y (others space p)) e j)

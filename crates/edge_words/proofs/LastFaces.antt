@@ -13,7 +13,8 @@ use Rattle.pair_laws.specs.Joins as joins
 use Rattle.sphere_collapses.specs.Laws.{LastFaceCloses}
 use Rattle.sheet_laws.specs.Permutations.{InRange, is_permutation, at, back}
 use Rattle.sheet_laws.specs.Labellings.{label, step, walk, closes, AreLabels}
-use Rattle.sheet_laws.proofs.CallerLemmas.{turn_of, back_turn, back-of-at, at-of-back, AreWithin, label-permutes, closes-at, closes-from, round-of}
+use Rattle.sheet_laws.proofs.CallerLemmas.{turn_of, back_turn, back-of-at, at-of-back, AreWithin, label-permutes, closes-at, closes-from}
+use Rattle.edge_words.proofs.FieldCells.{cycle-within}
 use Rattle.edge_words.proofs.Ranges.{in_range, range-true, range-from}
 
 module _ (m n : ℕ) (u : List (List ℕ)) (long : length u ≡ n) (permute : list_all (is_permutation m) u ≡ true) where
@@ -64,20 +65,17 @@ module _ (m n : ℕ) (u : List (List ℕ)) (long : length u ≡ n) (permute : li
 -- ---- the last 2-cell of a 3-cell
 
 module _ (law : CyclesGoRound) (space : List (List (List ℕ))) (is : IsSpace space) (regular : IsRegular space) where
-  pub cycle-within : (c : ℕ) → InRange (count space 2) c → AreWithin (count space 1) (cycle space c)
-  cycle-within c r t i = facet-range space 1 c t.edge is r.0 r.1 ((round-of law space c is regular r).inside t i)
-
   -- where the walk round each other 2-cell of a 3-cell closes, the walk round the last one does
   pub last-closes : LastFaceCloses → (m : ℕ) (u : List (List ℕ)) → AreLabels space m u → (cell face : ℕ) → InRange (count space 3) cell → In face (facets_of space 3 cell)
       → ((c : ℕ) → In c (facets_of space 3 cell) → c ≢ face → closes m u (cycle space c) ≡ true) → closes m u (cycle space face) ≡ true
   last-closes last m u h cell face r i others =
       closes-from m u (cycle space face) (λ x q.
-      sym (walk-is m (count space 1) u h.one_for_each h.permutations (cycle space face) (cycle-within face (there_range face i)) x)
+      sym (walk-is m (count space 1) u h.one_for_each h.permutations (cycle space face) (cycle-within law space is regular face (there_range face i)) x)
       ∙ last space cell face (forth m (count space 1) u h.one_for_each h.permutations) (against m (count space 1) u h.one_for_each h.permutations) (in_range m)
       is regular (record { first = r.0; last = r.1; facet = In-Contains i })
       (are_inverse m (count space 1) u h.one_for_each h.permutations)
       (λ c y j n s.
-      walk-is m (count space 1) u h.one_for_each h.permutations (cycle space c) (cycle-within c (there_range c (Contains-In j))) y
+      walk-is m (count space 1) u h.one_for_each h.permutations (cycle space c) (cycle-within law space is regular c (there_range c (Contains-In j))) y
       ∙ closes-at m u (cycle space c) (others c (Contains-In j) n) y (range-true m y s))
       x (range-from m x q))
     where

@@ -1,5 +1,5 @@
 -- What letters do to the sheets of a table of permutations, and what words of such letters do.
-use Rattle.std.proofs.Common.{◌≡◌, ℕ, zero, suc, List, [], ◌∷◌, ◌++◌, refl, ap, arith, sym, ◌∙◌, Bool, true, false, cond, ◌&&◌}
+use Rattle.std.proofs.Common.{◌≡◌, All, ℕ, zero, suc, List, [], ◌∷◌, ◌++◌, refl, ap, arith, sym, ◌∙◌, Bool, true, false, cond, ◌&&◌}
 use Rattle.std.specs.Prelude.{ℤ, pos, negsuc, ◌==◌, Option, Some, None}
 use Rattle.std.specs.List.{list_all}
 use Rattle.std.proofs.lemmas.Bool.{and_from}
@@ -150,8 +150,8 @@ home-is c m cells w table h =
         ∙ ap (λ (b : Bool). (follow (move c m cells) w x == x) && b) (same-all xs (λ y i. k y (there i)))
 
 -- and so it is with words
-pub satisfied-is : (c m : ℕ) (cells : List ℕ) (ws : List (List ℤ)) → is_table c m cells ≡ true → ((w : List ℤ) → In w ws → AreLetters c w) → list_all (never_fails c m cells) ws ≡ satisfies c m cells ws
+pub satisfied-is : (c m : ℕ) (cells : List ℕ) (ws : List (List ℤ)) → is_table c m cells ≡ true → All (AreLetters c) ws → list_all (never_fails c m cells) ws ≡ satisfies c m cells ws
 satisfied-is c m cells [] table h = refl
 satisfied-is c m cells (w ∷ ws) table h =
-    ap (λ (b : Bool). b && list_all (never_fails c m cells) ws) (home-is c m cells w table (h w here))
-    ∙ ap (λ (b : Bool). leads_home c m cells w && b) (satisfied-is c m cells ws table (λ v i. h v (there i)))
+    ap (λ (b : Bool). b && list_all (never_fails c m cells) ws) (home-is c m cells w table (h 0 [] (omega arith)))
+    ∙ ap (λ (b : Bool). leads_home c m cells w && b) (satisfied-is c m cells ws table (λ k d l. h (suc k) d (omega (arith, l))))

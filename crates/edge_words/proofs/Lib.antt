@@ -15,6 +15,8 @@ mod FreeWords
 mod Ranges
 mod LetterWalks
 mod FieldCells
+mod StepWords
+mod WordLetters
 mod WordStages
 mod ForcedWords
 mod WordLabels

@@ -18,13 +18,11 @@ use Rattle.sheet_laws.specs.Tables.{is_table}
 use Rattle.sheet_laws.specs.Labellings.{walk, closes, AreLabels, is_labelling}
 use Rattle.sheet_laws.specs.Lifts.{columns_of, IsLift, lift}
 use Rattle.sheet_laws.proofs.CallerLemmas.{closes-at, closes-from, is_lift}
-use Rattle.live_laws.specs.Walks.{move, AreLetters}
-use Rattle.edge_words.specs.Words.{word_of, words, critical_disks, relators, cycle_word}
+use Rattle.live_laws.specs.Walks.{move}
+use Rattle.edge_words.specs.Words.{words, critical_disks, relators, cycle_word}
 use Rattle.edge_words.specs.Labels.{leads_home, satisfies}
-use Rattle.edge_words.proofs.FieldCells.{upper-range, lower-facet, In-others, over-disks}
-use Rattle.edge_words.proofs.LetterWalks.{letters-reduced}
-use Rattle.edge_words.proofs.LastFaces.{cycle-within, last-closes}
-use Rattle.edge_words.proofs.WordStages.{word_of-letters, words-letters}
+use Rattle.edge_words.proofs.FieldCells.{cycle-within, upper-range, lower-facet, In-others, over-disks}
+use Rattle.edge_words.proofs.LastFaces.{last-closes}
 use Rattle.edge_words.proofs.WordLabels.{lift-walk_short}
 
 -- what a labelling is
@@ -109,11 +107,3 @@ module _ (law : CyclesGoRound) (space : List (List (List ℕ))) (pairs : List Pa
             ∙ eqb-true (lead (cycle_word space (words space pairs) c) x) x
             (all-In (λ x. lead (cycle_word space (words space pairs) c) x == x)
             (all-In (leads_home (columns_of space pairs) m cells) e (In-map (cycle_word space (words space pairs)) i)) (In-upto m x q.0 q.1)))
-
-  -- the letters of the relators are those of the critical edges
-  pub relators-letters : (w : List ℤ) → In w (relators space pairs) → AreLetters (columns_of space pairs) w
-  relators-letters w i =
-      let r = map-In (cycle_word space (words space pairs)) (critical_disks space pairs) i in
-      subst (AreLetters (columns_of space pairs)) (sym r.2)
-      (letters-reduced (columns_of space pairs) (word_of (words space pairs) (cycle space r.0))
-      (word_of-letters (count space 1) (columns_of space pairs) (words space pairs) (words-letters law space pairs is regular valid) (cycle space r.0) (cycle-within law space is regular r.0 (critical-range r.0 r.1))))

@@ -1,35 +1,31 @@
 -- The words and the sums along a field, pair by pair.
-use Rattle.std.proofs.Common.{◌≡◌, ℕ, zero, suc, ◌+◌, ◌-◌, ◌<◌, ◌≤◌, List, [], ◌∷◌, ◌++◌, map, length, take, drop, get_or, set, All, refl, ap, sym, ◌∙◌, subst, arith, Bool, true, false, inl}
+use Rattle.std.proofs.Common.{◌≡◌, ℕ, ◌+◌, ◌-◌, ◌<◌, ◌≤◌, List, [], ◌∷◌, ◌++◌, map, length, take, drop, get_or, set, refl, ap, sym, ◌∙◌, subst, arith, Bool, true, false, inl}
 use Rattle.std.specs.Prelude.{ℤ, ◌==◌, not}
 use Rattle.std.proofs.lemmas.Bool.{eqb-true, eq-eqb}
-use Rattle.std.proofs.lemmas.List.{append_assoc, take_more, take-append-drop, get_or-set_same, map-append, length-map, get_or-map}
-use Rattle.std.proofs.lemmas.List.FromFn.{get_or-map-range_with_len, length-map-range_with_len}
+use Rattle.std.proofs.lemmas.List.{append_assoc, take_more, take-append-drop, get_or-set_same, map-append, length-map}
 use Rattle.number_lists.specs.Members.{In, here, there}
-use Rattle.number_lists.specs.Words.{upto, holds}
-use Rattle.number_lists.proofs.CallerLemmas.{In-right, In-holds, length-filter-le, length-upto, upto-In, In-inside}
+use Rattle.number_lists.specs.Words.{upto}
+use Rattle.number_lists.proofs.CallerLemmas.{In-right, at-In, length-filter-le, length-upto, upto-In, In-inside}
 use Rattle.face_poset.specs.declared.cells.Cell.{Cell}
 use Rattle.face_poset.specs.declared.cells.Pair.{Pair}
-use Rattle.face_poset.specs.Poset.{Layers, count, facets_of, IsSpace, IsLimited}
+use Rattle.face_poset.specs.Poset.{Layers, count, IsSpace, IsLimited}
 use Rattle.face_poset.specs.Below.{cell_at}
-use Rattle.regular_check.specs.declared.cycles.Step.{Step}
 use Rattle.regular_check.specs.Rules.{IsRegular}
 use Rattle.regular_check.specs.Cycle.{cycle, CyclesGoRound}
 use Rattle.vector_field.specs.Pairs.{is_used, is_incident, critical_of, Field, IsFieldOf, IsValid}
-use Rattle.vector_field.proofs.CallerLemmas.{Lined, Goes, lined-from, incident-true, facet-range, critical-is}
+use Rattle.vector_field.proofs.CallerLemmas.{Lined, Goes, lined-from, incident-true, critical-is}
 use Rattle.sheet_laws.specs.Permutations.{InRange}
-use Rattle.sheet_laws.specs.Lifts.{critical_edges, columns_of}
-use Rattle.sheet_laws.proofs.CallerLemmas.{round-of}
-use Rattle.live_laws.specs.Walks.{AreLetters}
-use Rattle.edge_words.specs.Words.{word_at, words_from, words, first_word, forced_word, word_of, cycle_word, critical_disks, relators}
+use Rattle.sheet_laws.specs.Lifts.{columns_of}
+use Rattle.edge_words.specs.Words.{word_at, words_from, words, forced_word, cycle_word, critical_disks, relators}
 use Rattle.edge_words.specs.declared.fault.WordFault.{WordFault}
 use Rattle.edge_words.specs.Limits.{edge_words, first_long, IsFault}
 use Rattle.edge_words.specs.Counting.{IsCounted}
 use Rattle.edge_words.specs.Reducing.{AreWords, AreSteps}
 use Rattle.edge_words.proofs.Letters.{letters-wider}
-use Rattle.edge_words.proofs.LetterWalks.{letters-reduced}
 use Rattle.edge_words.proofs.Counted.{counted-append, fault-next}
-use Rattle.edge_words.proofs.Along.{letters-word_of, words_from-append, length-words_from, letters-words_from, word-kept, edge_words-append}
-use Rattle.edge_words.proofs.Own.{own-letters}
+use Rattle.edge_words.proofs.Along.{words_from-append, word-kept, edge_words-append}
+use Rattle.edge_words.proofs.WordLetters.{first, letters-from}
+use Rattle.edge_words.proofs.FieldCells.{low-range, cycle-within}
 
 lined-right : {A : Type 0} (R : A → A → Type 0) (xs ys : List A) → Lined R (xs ++ ys) → Lined R ys
 lined-right R [] ys h = h
@@ -48,11 +44,6 @@ pairs-split pairs i p l e =
 abbrev pub disk-measured : Layers → List (List ℤ) → (c : ℕ) → Cell × List ℤ
 disk-measured space ws c = (cell_at 2 c, cycle_word space ws c)
 
-at-In-any : {A : Type 0} (xs : List A) (k : ℕ) (d : A) → k < length xs → In (get_or xs k d) xs
-at-In-any [] k d l = absurd (omega (arith, l))
-at-In-any (x ∷ xs) zero d l = here
-at-In-any (x ∷ xs) (suc k) d l = there (at-In-any xs k d (omega (arith, l)))
-
 -- the measured word of a pair, where the word of its lower is the same
 same-measured : (ws vs : List (List ℤ)) (p : Pair) → (p.dim ≡ 1 → word_at ws p.lower ≡ word_at vs p.lower) → edge_words ws (p ∷ []) ≡ edge_words vs (p ∷ [])
 same-measured ws vs p h = by (p.dim == 1) refl
@@ -62,29 +53,11 @@ same-measured ws vs p h = by (p.dim == 1) refl
     by false k = rw k refl
 
 module _ (space : Layers) (pairs : List Pair) where
-  -- the words before any is forced
-  abbrev pub first : List (List ℤ)
-  first = map (first_word space pairs) (upto (count space 1))
-
-  pub length-first : length first ≡ count space 1
-  length-first = length-map-range_with_len (first_word space pairs) 1 (count space 1)
-
-  pub letters-first : All (AreLetters (columns_of space pairs)) first
-  letters-first k d l =
-      let n : k < count space 1 = omega (arith, l, length-first) in
-      subst (AreLetters (columns_of space pairs)) (sym (get_or-map-range_with_len (first_word space pairs) 1 (count space 1) k (k + 1) d n (omega arith))) (own-letters (critical_edges space pairs) (k + 1))
-
   pub columns-few : IsLimited space → columns_of space pairs ≤ 60000
   columns-few h = omega (arith, h.most, length-filter-le (λ cell. not (is_used pairs 1 cell)) (upto (count space 1)), length-upto (count space 1))
 
-  pub letters-from : (ps : List Pair) → All (AreLetters (columns_of space pairs)) (words_from space first ps)
-  letters-from ps = letters-words_from space (columns_of space pairs) first ps letters-first
-
-  pub words-are : IsLimited space → (ps : List Pair) → AreWords (words_from space first ps)
-  words-are h ps k d l = letters-wider (columns_of space pairs) 60000 (get_or (words_from space first ps) k d) (columns-few h) (letters-from ps k d l)
-
-  pub length-from : (ps : List Pair) → length (words_from space first ps) ≡ count space 1
-  length-from ps = length-words_from space first ps ∙ length-first
+  pub words-are : IsLimited space → (ps : List Pair) → AreWords (words_from space (first space pairs) ps)
+  words-are h ps k d l = letters-wider (columns_of space pairs) 60000 (get_or (words_from space (first space pairs) ps) k d) (columns-few h) (letters-from space pairs ps k d l)
 
   -- the word of the lower of a pair is final as soon as it is made
   module _ (valid : IsValid space pairs) (i : ℕ) (p : Pair) (l : i < length pairs) (e : p ≡ get_or pairs i p) where
@@ -101,21 +74,21 @@ module _ (space : Layers) (pairs : List Pair) where
     behind q m = subst (λ (ps : List Pair). In q ps) (sym (pairs-split pairs i p l e)) (In-right (take i pairs) (there m))
 
     before : List (List ℤ)
-    before = words_from space first (take i pairs)
+    before = words_from space (first space pairs) (take i pairs)
 
-    rest : words space pairs ≡ words_from space (words_from space (words_from space first (take i pairs)) (p ∷ [])) (drop (i + 1) pairs)
+    rest : words space pairs ≡ words_from space (words_from space (words_from space (first space pairs) (take i pairs)) (p ∷ [])) (drop (i + 1) pairs)
     rest =
-        ap (words_from space first) (pairs-split pairs i p l e)
-        ∙ (words_from-append space first (take i pairs) (p ∷ drop (i + 1) pairs) ∙ words_from-append space (words_from space first (take i pairs)) (p ∷ []) (drop (i + 1) pairs))
+        ap (words_from space (first space pairs)) (pairs-split pairs i p l e)
+        ∙ (words_from-append space (first space pairs) (take i pairs) (p ∷ drop (i + 1) pairs) ∙ words_from-append space (words_from space (first space pairs) (take i pairs)) (p ∷ []) (drop (i + 1) pairs))
 
-    final : p.dim ≡ 1 → word_at (words_from space (words_from space first (take i pairs)) (p ∷ [])) p.lower ≡ word_at (words space pairs) p.lower
+    final : p.dim ≡ 1 → word_at (words_from space (words_from space (first space pairs) (take i pairs)) (p ∷ [])) p.lower ≡ word_at (words space pairs) p.lower
     final d =
         sym (ap (λ (ws : List (List ℤ)). word_at ws p.lower) rest
-        ∙ word-kept space (words_from space (words_from space first (take i pairs)) (p ∷ [])) (drop (i + 1) pairs) p.lower (incident-true space p incident-is).first
+        ∙ word-kept space (words_from space (words_from space (first space pairs) (take i pairs)) (p ∷ [])) (drop (i + 1) pairs) p.lower (incident-true space p incident-is).first
         (λ q m k. ((incident-true space q ((lined-from space pairs valid).incident q (behind q m))).first, λ x. (later q m).apart.0 (inl (d ∙ sym k, sym x)))))
 
-    pub final-words : edge_words (words_from space (words_from space first (take i pairs)) (p ∷ [])) (p ∷ []) ≡ edge_words (words space pairs) (p ∷ [])
-    final-words = same-measured (words_from space (words_from space first (take i pairs)) (p ∷ [])) (words space pairs) p final
+    pub final-words : edge_words (words_from space (words_from space (first space pairs) (take i pairs)) (p ∷ [])) (p ∷ []) ≡ edge_words (words space pairs) (p ∷ [])
+    final-words = same-measured (words_from space (words_from space (first space pairs) (take i pairs)) (p ∷ [])) (words space pairs) p final
 
     -- the measured words in three parts
     pub measured-split : edge_words (words space pairs) pairs ≡ edge_words (words space pairs) (take i pairs) ++ (edge_words (words space pairs) (p ∷ []) ++ edge_words (words space pairs) (drop (i + 1) pairs))
@@ -125,22 +98,22 @@ module _ (space : Layers) (pairs : List Pair) where
         ∙ ap (λ (ms : List (Cell × List ℤ)). edge_words (words space pairs) (take i pairs) ++ ms) (edge_words-append (words space pairs) (p ∷ []) (drop (i + 1) pairs)))
 
     -- one pair more
-    pub words-next : (ws vs : List (List ℤ)) → ws ≡ words_from space first (take i pairs) → vs ≡ words_from space ws (p ∷ []) → vs ≡ words_from space first (take (i + 1) pairs)
+    pub words-next : (ws vs : List (List ℤ)) → ws ≡ words_from space (first space pairs) (take i pairs) → vs ≡ words_from space ws (p ∷ []) → vs ≡ words_from space (first space pairs) (take (i + 1) pairs)
     words-next ws vs h k =
         k
         ∙ (ap (λ (us : List (List ℤ)). words_from space us (p ∷ [])) h
-        ∙ sym (ap (words_from space first) (pairs-more pairs i p l e) ∙ words_from-append space first (take i pairs) (p ∷ [])))
+        ∙ sym (ap (words_from space (first space pairs)) (pairs-more pairs i p l e) ∙ words_from-append space (first space pairs) (take i pairs) (p ∷ [])))
 
-    one : (ws : List (List ℤ)) → ws ≡ words_from space first (take i pairs) → edge_words (words_from space ws (p ∷ [])) (p ∷ []) ≡ edge_words (words space pairs) (p ∷ [])
+    one : (ws : List (List ℤ)) → ws ≡ words_from space (first space pairs) (take i pairs) → edge_words (words_from space ws (p ∷ [])) (p ∷ []) ≡ edge_words (words space pairs) (p ∷ [])
     one ws h = ap (λ (us : List (List ℤ)). edge_words (words_from space us (p ∷ [])) (p ∷ [])) h ∙ final-words
 
-    pub count-next : (old mid new : ℕ) (ws : List (List ℤ)) → ws ≡ words_from space first (take i pairs) → IsCounted old (edge_words (words space pairs) (take i pairs)) mid
+    pub count-next : (old mid new : ℕ) (ws : List (List ℤ)) → ws ≡ words_from space (first space pairs) (take i pairs) → IsCounted old (edge_words (words space pairs) (take i pairs)) mid
         → IsCounted mid (edge_words (words_from space ws (p ∷ [])) (p ∷ [])) new → IsCounted old (edge_words (words space pairs) (take (i + 1) pairs)) new
     count-next old mid new ws h a b =
         subst (λ (ms : List (Cell × List ℤ)). IsCounted old ms new) (sym (ap (edge_words (words space pairs)) (pairs-more pairs i p l e) ∙ edge_words-append (words space pairs) (take i pairs) (p ∷ [])))
         (counted-append old mid new (edge_words (words space pairs) (take i pairs)) (edge_words (words space pairs) (p ∷ [])) a (subst (λ (ms : List (Cell × List ℤ)). IsCounted mid ms new) (one ws h) b))
 
-    pub fault-now : (old mid : ℕ) (ws : List (List ℤ)) (fault : WordFault) → ws ≡ words_from space first (take i pairs) → IsCounted old (edge_words (words space pairs) (take i pairs)) mid
+    pub fault-now : (old mid : ℕ) (ws : List (List ℤ)) (fault : WordFault) → ws ≡ words_from space (first space pairs) (take i pairs) → IsCounted old (edge_words (words space pairs) (take i pairs)) mid
         → IsFault (first_long mid (edge_words (words_from space ws (p ∷ [])) (p ∷ []))) fault → IsFault (first_long old (edge_words (words space pairs) pairs)) fault
     fault-now old mid ws fault h a b =
         subst (λ (ms : List (Cell × List ℤ)). IsFault (first_long old ms) fault) (sym measured-split)
@@ -151,29 +124,11 @@ module _ (space : Layers) (pairs : List Pair) where
 
 module _ (law : CyclesGoRound) (space : Layers) (is : IsSpace space) (regular : IsRegular space) (c : ℕ) (r : InRange (count space 2) c) where
   pub cycle-steps : (ws : List (List ℤ)) → length ws ≡ count space 1 → AreSteps ws (cycle space c)
-  cycle-steps ws e k d l =
-      let s : Step = get_or (cycle space c) k d in
-      let f = facet-range space 1 c s.edge is r.0 r.1 ((round-of law space c is regular r).inside s (at-In-any (cycle space c) k d l)) in
-      (f.0, omega (arith, f.1, e))
-
-  pub cycle-has : (e : ℕ) → In e (facets_of space 2 c) → holds (map (λ (t : Step). t.edge) (cycle space c)) e ≡ true
-  cycle-has e m = In-holds ((round-of law space c is regular r).all e m)
+  cycle-steps ws e k d l = let f = cycle-within law space is regular c r (get_or (cycle space c) k d) (at-In (cycle space c) k d l) in (f.0, omega (arith, f.1, e))
 
 -- ---- one pair of an edge with a 2-cell
 
 module _ (space : Layers) (p : Pair) (i : is_incident space p ≡ true) (d : p.dim ≡ 1) where
-  next : p.dim + 1 ≡ 2
-  next = omega (arith, d)
-
-  pub upper-range : InRange (count space 2) p.upper
-  upper-range = let h = incident-true space p i in (h.upper_first, subst (λ (k : ℕ). p.upper ≤ count space k) next h.upper_last)
-
-  pub lower-range : InRange (count space 1) p.lower
-  lower-range = let h = incident-true space p i in (h.first, subst (λ (k : ℕ). p.lower ≤ count space k) d h.last)
-
-  pub lower-facet : In p.lower (facets_of space 2 p.upper)
-  lower-facet = subst (λ (k : ℕ). In p.lower (facets_of space k p.upper)) next (incident-true space p i).facet
-
   -- the word that is put, and its measure
   pub put-word : (ws : List (List ℤ)) → words_from space ws (p ∷ []) ≡ set ws (p.lower - 1) (forced_word ws p.lower (cycle space p.upper))
   put-word ws = rw (eq-eqb p.dim 1 d) refl
@@ -182,7 +137,7 @@ module _ (space : Layers) (p : Pair) (i : is_incident space p ≡ true) (d : p.d
   put-measured ws e =
       ap (λ (vs : List (List ℤ)). edge_words vs (p ∷ [])) (put-word ws)
       ∙ measured-one (set ws (p.lower - 1) (forced_word ws p.lower (cycle space p.upper)))
-      ∙ ap (λ (v : List ℤ). (cell_at 1 p.lower, v) ∷ []) (get_or-set_same ws (p.lower - 1) (forced_word ws p.lower (cycle space p.upper)) [] (omega (arith, lower-range.0, lower-range.1, e)))
+      ∙ ap (λ (v : List ℤ). (cell_at 1 p.lower, v) ∷ []) (get_or-set_same ws (p.lower - 1) (forced_word ws p.lower (cycle space p.upper)) [] (let r = low-range space p 1 d i in omega (arith, r.0, r.1, e)))
     where
       measured-one : (vs : List (List ℤ)) → edge_words vs (p ∷ []) ≡ (cell_at 1 p.lower, word_at vs p.lower) ∷ []
       measured-one vs = rw (eq-eqb p.dim 1 d) refl
@@ -196,7 +151,7 @@ module _ (space : Layers) (field : Field) (is : IsFieldOf space field) (cells : 
   pub disk-range : (i : ℕ) → i < length cells → InRange (count space 2) (get_or cells i 0)
   disk-range i l =
       upto-In (count space 2) (get_or cells i 0)
-      (In-inside (λ cell. not (is_used field.pairs 2 cell)) (upto (count space 2)) (subst (λ (xs : List ℕ). In (get_or cells i 0) xs) disks-are (at-In-any cells i 0 l)))
+      (In-inside (λ cell. not (is_used field.pairs 2 cell)) (upto (count space 2)) (subst (λ (xs : List ℕ). In (get_or cells i 0) xs) disks-are (at-In cells i 0 l)))
 
 module _ (space : Layers) (ws : List (List ℤ)) (ds : List ℕ) (i d : ℕ) (l : i < length ds) (is : d ≡ get_or ds i 0) where
   disks-more : take (i + 1) ds ≡ take i ds ++ d ∷ []
@@ -233,10 +188,3 @@ module _ (space : Layers) (ws : List (List ℤ)) (ds : List ℕ) (i d : ℕ) (l 
 module _ (space : Layers) (pairs : List Pair) (limited : IsLimited space) where
   pub relators-few : length (relators space pairs) ≤ 60000
   relators-few = omega (arith, limited.most, length-map (critical_disks space pairs) (cycle_word space (words space pairs)), length-filter-le (λ cell. not (is_used pairs 2 cell)) (upto (count space 2)), length-upto (count space 2))
-
-  pub relators-letters : All (AreLetters (columns_of space pairs)) (relators space pairs)
-  relators-letters k d l =
-      let n : k < length (critical_disks space pairs) = omega (arith, l, length-map (critical_disks space pairs) (cycle_word space (words space pairs))) in
-      subst (AreLetters (columns_of space pairs)) (sym (get_or-map (cycle_word space (words space pairs)) (critical_disks space pairs) k 0 d n))
-      (letters-reduced (columns_of space pairs) (word_of (words space pairs) (cycle space (get_or (critical_disks space pairs) k 0)))
-      (letters-word_of (columns_of space pairs) (words space pairs) (cycle space (get_or (critical_disks space pairs) k 0)) (letters-from space pairs pairs)))

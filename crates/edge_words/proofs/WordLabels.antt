@@ -1,5 +1,5 @@
 -- Labels by words: the walk by them follows the words of the steps, and with the words of edges they are the lift.
-use Rattle.std.proofs.Common.{◌≡◌, ℕ, ◌-◌, List, [], ◌∷◌, map, length, refl, ap, arith, sym, ◌∙◌, subst, Bool, true, false, cond}
+use Rattle.std.proofs.Common.{◌≡◌, All, ℕ, ◌-◌, List, [], ◌∷◌, map, length, refl, ap, arith, sym, ◌∙◌, subst, Bool, true, false, cond}
 use Rattle.std.specs.Prelude.{ℤ, pos}
 use Rattle.std.proofs.lemmas.List.{length-map, get_or-map, map-id}
 use Rattle.std.proofs.lemmas.List.FromFn.{length-map-range_with_len}
@@ -24,11 +24,14 @@ use Rattle.live_laws.specs.Walks.{move, AreLetters}
 use Rattle.edge_words.specs.Labels.{label_of, labels_of}
 use Rattle.edge_words.proofs.FieldCells.{upper-range}
 use Rattle.edge_words.proofs.LetterWalks.{follow-append, word-turn, word-back, word-short}
-use Rattle.edge_words.proofs.WordStages.{each-word, word_of-letters, words-long, words-letters, words-close, tree-word, critical-word}
+use Rattle.edge_words.proofs.StepWords.{each-word}
+use Rattle.edge_words.proofs.Along.{letters-word_at, letters-word_of}
+use Rattle.edge_words.proofs.WordLetters.{words-long, words-letters}
+use Rattle.edge_words.proofs.WordStages.{words-close, tree-word, critical-word}
 
 -- ---- labels by any words in the letters of a table
 
-module _ (c m n : ℕ) (cells : List ℕ) (table : is_table c m cells ≡ true) (ws : List (List ℤ)) (long : length ws ≡ n) (letters : (e : ℕ) → InRange n e → AreLetters c (word_at ws e)) where
+module _ (c m n : ℕ) (cells : List ℕ) (table : is_table c m cells ≡ true) (ws : List (List ℤ)) (long : length ws ≡ n) (letters : All (AreLetters c) ws) where
   abbrev pub by_words : List (List ℕ)
   by_words = map (λ w. values m (follow (move c m cells) w)) ws
 
@@ -46,15 +49,15 @@ module _ (c m n : ℕ) (cells : List ℕ) (table : is_table c m cells ≡ true) 
           ≡ follow (move c m cells) (cond b (word_at ws s.edge) (inverted (word_at ws s.edge))) x
       by true = at_values m (follow (move c m cells) (word_at ws s.edge)) x q
       by false =
-          back_values m (follow (move c m cells) (word_at ws s.edge)) (word-turn c m cells table (word_at ws s.edge) (letters s.edge r)) x q
-          ∙ word-back c m cells table (word_at ws s.edge) (letters s.edge r) x
+          back_values m (follow (move c m cells) (word_at ws s.edge)) (word-turn c m cells table (word_at ws s.edge) (letters-word_at c ws s.edge letters)) x q
+          ∙ word-back c m cells table (word_at ws s.edge) (letters-word_at c ws s.edge letters) x
 
   step-into : (s : Step) → InRange n s.edge → (x : ℕ) → InRange m x → InRange m (follow (move c m cells) (step_word ws s) x)
   step-into s r x q = by s.forward
     where
       by : (b : Bool) → InRange m (follow (move c m cells) (cond b (word_at ws s.edge) (inverted (word_at ws s.edge))) x)
-      by true = (word-turn c m cells table (word_at ws s.edge) (letters s.edge r)).into x q
-      by false = subst (InRange m) (word-back c m cells table (word_at ws s.edge) (letters s.edge r) x) ((word-turn c m cells table (word_at ws s.edge) (letters s.edge r)).inv_into x q)
+      by true = (word-turn c m cells table (word_at ws s.edge) (letters-word_at c ws s.edge letters)).into x q
+      by false = subst (InRange m) (word-back c m cells table (word_at ws s.edge) (letters-word_at c ws s.edge letters) x) ((word-turn c m cells table (word_at ws s.edge) (letters-word_at c ws s.edge letters)).inv_into x q)
 
   -- a walk follows the word of its steps
   pub walk-word : (ss : List Step) → AreWithin n ss → (x : ℕ) → InRange m x → walk by_words ss x ≡ follow (move c m cells) (word_of ws ss) x
@@ -68,11 +71,11 @@ module _ (c m n : ℕ) (cells : List ℕ) (table : is_table c m cells ≡ true) 
 
 module _ (law : CyclesGoRound) (space : List (List (List ℕ))) (pairs : List Pair) (is : IsSpace space) (regular : IsRegular space) (valid : IsValid space pairs)
     (m : ℕ) (cells : List ℕ) (table : is_table (columns_of space pairs) m cells ≡ true) where
-  letters : (e : ℕ) → InRange (count space 1) e → AreLetters (columns_of space pairs) (word_at (words space pairs) e)
-  letters = words-letters law space pairs is regular valid
+  letters : All (AreLetters (columns_of space pairs)) (words space pairs)
+  letters = words-letters space pairs
 
   long : length (words space pairs) ≡ count space 1
-  long = words-long law space pairs is regular valid
+  long = words-long space pairs
 
   -- the walk by these labels follows the word, and the reduced word
   labels-walk : (ss : List Step) → AreWithin (count space 1) ss → (x : ℕ) → InRange m x
@@ -83,7 +86,7 @@ module _ (law : CyclesGoRound) (space : List (List (List ℕ))) (pairs : List Pa
       → walk (labels_of (columns_of space pairs) m cells (words space pairs)) ss x ≡ follow (move (columns_of space pairs) m cells) (reduced (word_of (words space pairs) ss)) x
   labels-walk_short ss h x q =
       labels-walk ss h x q
-      ∙ sym (word-short (columns_of space pairs) m cells table (word_of (words space pairs) ss) (word_of-letters (count space 1) (columns_of space pairs) (words space pairs) letters ss h) x q)
+      ∙ sym (word-short (columns_of space pairs) m cells table (word_of (words space pairs) ss) (letters-word_of (columns_of space pairs) (words space pairs) ss letters) x q)
 
   labels-label : (e : ℕ) → InRange (count space 1) e → label (labels_of (columns_of space pairs) m cells (words space pairs)) e ≡ values m (follow (move (columns_of space pairs) m cells) (word_at (words space pairs) e))
   labels-label e r = label-word (columns_of space pairs) m (count space 1) cells table (words space pairs) long letters e r
@@ -91,14 +94,14 @@ module _ (law : CyclesGoRound) (space : List (List (List ℕ))) (pairs : List Pa
   labels-permute : (e : ℕ) → InRange (count space 1) e → is_permutation m (label (labels_of (columns_of space pairs) m cells (words space pairs)) e) ≡ true
   labels-permute e r =
       ap (is_permutation m) (labels-label e r)
-      ∙ list_of m (follow (move (columns_of space pairs) m cells) (word_at (words space pairs) e)) (word-turn (columns_of space pairs) m cells table (word_at (words space pairs) e) (letters e r))
+      ∙ list_of m (follow (move (columns_of space pairs) m cells) (word_at (words space pairs) e)) (word-turn (columns_of space pairs) m cells table (word_at (words space pairs) e) (letters-word_at (columns_of space pairs) (words space pairs) e letters))
 
   all-permute : (f : List ℕ) → In f (labels_of (columns_of space pairs) m cells (words space pairs)) → is_permutation m f ≡ true
   all-permute f i =
       let r = map-In (label_of (columns_of space pairs) m cells) (words space pairs) i in
       ap (is_permutation m) r.2
       ∙ each-word (λ w. is_permutation m (label_of (columns_of space pairs) m cells w) ≡ true) (count space 1) (words space pairs) long
-      (λ e q. list_of m (follow (move (columns_of space pairs) m cells) (word_at (words space pairs) e)) (word-turn (columns_of space pairs) m cells table (word_at (words space pairs) e) (letters e q))) r.0 r.1
+      (λ e q. list_of m (follow (move (columns_of space pairs) m cells) (word_at (words space pairs) e)) (word-turn (columns_of space pairs) m cells table (word_at (words space pairs) e) (letters-word_at (columns_of space pairs) (words space pairs) e letters))) r.0 r.1
 
   labels-lift : IsLift space pairs m cells (labels_of (columns_of space pairs) m cells (words space pairs))
   labels-lift = record {

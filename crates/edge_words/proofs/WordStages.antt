@@ -1,12 +1,13 @@
 -- The words of edges, pair by pair: what each word is when the field is passed.
-use Rattle.std.proofs.Common.{◌≡◌, ◌⊎◌, inl, inr, ℕ, ◌-◌, ◌≤◌, List, [], ◌∷◌, ◌++◌, map, length, set, refl, ap, arith, sym, ◌∙◌, subst, Bool, true, false, cond, zero, suc, ◌<◌, get_or}
+use Rattle.std.proofs.Common.{◌≡◌, ◌⊎◌, All, inl, inr, ℕ, ◌-◌, List, [], ◌∷◌, ◌++◌, map, length, set, refl, ap, arith, sym, ◌∙◌, subst, Bool, true, false, cond}
 use Rattle.std.specs.Prelude.{ℤ, pos, ◌==◌, not}
 use Rattle.std.proofs.lemmas.Bool.{eqb-true, eq-eqb, false≢true, cases_Bool, false_from_ne_true}
-use Rattle.std.proofs.lemmas.List.{length-set, get_or-set_same, get_or-set_other, append_assoc, append-nil}
-use Rattle.std.proofs.lemmas.List.FromFn.{get_or-map-range_with_len, length-map-range_with_len}
+use Rattle.std.proofs.lemmas.List.{length-set, append_assoc, append-nil}
+use Rattle.std.proofs.lemmas.List.Elements.{All-set}
+use Rattle.std.proofs.lemmas.List.FromFn.{get_or-map-range_with_len}
 use Rattle.number_lists.specs.Members.{In, here, there}
 use Rattle.number_lists.specs.Words.{upto, holds}
-use Rattle.number_lists.proofs.CallerLemmas.{append-In, push-In, In-left, In-right, In-last, holds-In, In-holds}
+use Rattle.number_lists.proofs.CallerLemmas.{push-In, In-left, In-right, In-last, holds-In, In-holds}
 use Rattle.face_poset.specs.declared.cells.Pair.{Pair}
 use Rattle.face_poset.specs.Poset.{count, IsSpace}
 use Rattle.regular_check.specs.declared.cycles.Step.{Step}
@@ -15,85 +16,29 @@ use Rattle.regular_check.specs.Cycle.{cycle, CyclesGoRound}
 use Rattle.vector_field.specs.Pairs.{is_used, IsValid}
 use Rattle.vector_field.proofs.CallerLemmas.{Lined, Goes, lined-from}
 use Rattle.pair_laws.specs.Letters.{are_letters, reduced, is_reduced, inverted}
-use Rattle.pair_laws.proofs.CallerLemmas.{reduced_is, reduced_inverted, letters, letters_inverted}
+use Rattle.pair_laws.proofs.CallerLemmas.{reduced_is, reduced_inverted}
 use Rattle.sheet_laws.specs.Permutations.{InRange, at, back}
 use Rattle.sheet_laws.specs.Lifts.{critical_edges, columns_of}
-use Rattle.sheet_laws.proofs.CallerLemmas.{AreWithin, IsCutAt, IsRound, round-of, cut, within, tree-no_lower, critical-no_lower, critical-no_tree, critical-range, back-range, back-at, at-range, distinct-filter, distinct-range}
+use Rattle.sheet_laws.proofs.CallerLemmas.{AreWithin, IsCutAt, IsRound, round-of, cut, within, tree-no_lower, critical-no_lower, critical-no_tree, critical-range, back-at, at-range, distinct-filter, distinct-range}
 use Rattle.edge_words.specs.Words.{word_at, step_word, word_of, forced_word, first_word, words_from, words}
 use Rattle.edge_words.proofs.FreeWords.{round-closed}
 use Rattle.edge_words.proofs.FieldCells.{lower-range, upper-range, In-others}
 use Rattle.live_laws.specs.Walks.{AreLetters}
-use Rattle.edge_words.proofs.LetterWalks.{letters-are, letters-append, letters-reduced, letters-inverted}
-
--- ---- words that are put anew
-
-pub word-same : (ws : List (List ℤ)) (e : ℕ) (w : List ℤ) → InRange (length ws) e → word_at (set ws (e - 1) w) e ≡ w
-word-same ws e w r = get_or-set_same ws (e - 1) w [] (omega (arith, r.0, r.1))
-
-pub word-other : (ws : List (List ℤ)) (e d : ℕ) (w : List ℤ) → 1 ≤ e → 1 ≤ d → (d ≡ e → ⊥) → word_at (set ws (e - 1) w) d ≡ word_at ws d
-word-other ws e d w l k n = get_or-set_other ws (e - 1) (d - 1) w [] (λ x. n (omega (arith, x, l, k)))
-
--- what holds of the word of each edge holds of each word
-pub each-word : (P : List ℤ → Type 0) (n : ℕ) (ws : List (List ℤ)) → length ws ≡ n → ((e : ℕ) → InRange n e → P (word_at ws e)) → (w : List ℤ) → In w ws → P w
-each-word P n ws long h w i =
-    let k = place i in
-    let e : suc k.0 - 1 ≡ k.0 = omega arith in
-    subst P (ap (λ (j : ℕ). get_or ws j []) e ∙ k.2) (h (suc k.0) (omega arith, omega (arith, k.1, long)))
-  where
-    place : {w : List ℤ} {vs : List (List ℤ)} → In w vs → (k : ℕ) × (k < length vs) × (get_or vs k [] ≡ w)
-    place here = (zero, omega arith, refl)
-    place (there h) = let r = place h in (suc r.0, omega (arith, r.1), r.2)
-
--- ---- words of steps
-
-pub word_of-append : (ws : List (List ℤ)) (xs ys : List Step) → word_of ws (xs ++ ys) ≡ word_of ws xs ++ word_of ws ys
-word_of-append ws [] ys = refl
-word_of-append ws (s ∷ xs) ys =
-    ap (λ (w : List ℤ). step_word ws s ++ w) (word_of-append ws xs ys) ∙ sym (append_assoc (step_word ws s) (word_of ws xs) (word_of ws ys))
-
--- words that agree on the edges of steps
-pub word_of-agree : (ws vs : List (List ℤ)) (ss : List Step) → ((t : Step) → In t ss → word_at ws t.edge ≡ word_at vs t.edge) → word_of ws ss ≡ word_of vs ss
-word_of-agree ws vs [] h = refl
-word_of-agree ws vs (s ∷ ss) h =
-    ap (λ (w : List ℤ). cond s.forward w (inverted w) ++ word_of ws ss) (h s here)
-    ∙ ap (λ (w : List ℤ). step_word vs s ++ w) (word_of-agree ws vs ss (λ t i. h t (there i)))
-
--- the letters of the words of steps
-pub word_of-letters : (n c : ℕ) (ws : List (List ℤ)) → ((e : ℕ) → InRange n e → AreLetters c (word_at ws e)) → (ss : List Step) → AreWithin n ss → AreLetters c (word_of ws ss)
-word_of-letters n c ws h [] r = tt
-word_of-letters n c ws h (s ∷ ss) r =
-    letters-append c (step_word ws s) (word_of ws ss) (by s.forward) (word_of-letters n c ws h ss (λ t i. r t (there i)))
-  where
-    by : (b : Bool) → AreLetters c (cond b (word_at ws s.edge) (inverted (word_at ws s.edge)))
-    by true = h s.edge (r s here)
-    by false = letters-inverted c (word_at ws s.edge) (h s.edge (r s here))
-
-pub word_of-are_letters : (n : ℕ) (ws : List (List ℤ)) → ((e : ℕ) → InRange n e → are_letters (word_at ws e) ≡ true) → (ss : List Step) → AreWithin n ss → are_letters (word_of ws ss) ≡ true
-word_of-are_letters n ws h [] r = refl
-word_of-are_letters n ws h (s ∷ ss) r =
-    letters (step_word ws s) (word_of ws ss) (by s.forward) (word_of-are_letters n ws h ss (λ t i. r t (there i)))
-  where
-    by : (b : Bool) → are_letters (cond b (word_at ws s.edge) (inverted (word_at ws s.edge))) ≡ true
-    by true = h s.edge (r s here)
-    by false = letters_inverted (word_at ws s.edge) (h s.edge (r s here))
+use Rattle.edge_words.proofs.LetterWalks.{letters-are}
+use Rattle.edge_words.proofs.StepWords.{word-same, word-other, word_of-append, word_of-agree}
+use Rattle.edge_words.proofs.Along.{letters-word_of, letters-forced}
+use Rattle.edge_words.proofs.WordLetters.{length-first, letters-first}
 
 module _ (law : CyclesGoRound) (space : List (List (List ℕ))) (pairs : List Pair) (is : IsSpace space) (regular : IsRegular space) (valid : IsValid space pairs) where
   -- the words after the first pairs
   record Stage (done : List Pair) (ws : List (List ℤ)) : Type 0 where
     pub long : length ws ≡ count space 1
-    pub letters : (e : ℕ) → InRange (count space 1) e → AreLetters (columns_of space pairs) (word_at ws e)
+    pub letters : All (AreLetters (columns_of space pairs)) ws
     pub short : (e : ℕ) → InRange (count space 1) e → is_reduced (word_at ws e) ≡ true
     pub kept : (e : ℕ) → InRange (count space 1) e → ((p : Pair) → In p done → p.dim ≡ 1 → p.lower ≡ e → ⊥) → word_at ws e ≡ first_word space pairs e
     pub closed : (p : Pair) → In p done → p.dim ≡ 1 → reduced (word_of ws (cycle space p.upper)) ≡ []
 
   -- ---- at the beginning
-
-  first-letters : (e : ℕ) → AreLetters (columns_of space pairs) (first_word space pairs e)
-  first-letters e = by (holds (critical_edges space pairs) e) refl
-    where
-      by : (b : Bool) → holds (critical_edges space pairs) e ≡ b → AreLetters (columns_of space pairs) (cond b (pos (back (critical_edges space pairs) e) ∷ []) [])
-      by true k = (back-range (critical_edges space pairs) e (holds-In (critical_edges space pairs) k), tt)
-      by false k = tt
 
   first-short : (e : ℕ) → is_reduced (first_word space pairs e) ≡ true
   first-short e = by (holds (critical_edges space pairs) e)
@@ -107,8 +52,8 @@ module _ (law : CyclesGoRound) (space : List (List (List ℕ))) (pairs : List Pa
 
   begun : Stage [] (map (first_word space pairs) (upto (count space 1)))
   begun = record {
-    long = length-map-range_with_len (first_word space pairs) 1 (count space 1);
-    letters = λ e r. subst (AreLetters (columns_of space pairs)) (sym (first-word e r)) (first-letters e);
+    long = length-first space pairs;
+    letters = letters-first space pairs;
     short = λ e r. ap is_reduced (first-word e r) ∙ first-short e;
     kept = λ e r n. first-word e r;
     closed = λ p i. elim i [ ];
@@ -137,9 +82,7 @@ module _ (law : CyclesGoRound) (space : List (List (List ℕ))) (pairs : List Pa
 
     around-letters : AreLetters (columns_of space pairs) around
     unfolding around
-    around-letters =
-        word_of-letters (count space 1) (columns_of space pairs) ws h.letters (c.last ++ c.first)
-        (λ t m. elim (append-In c.last c.first m) [ inl j ↦ last_in t j | inr j ↦ first_in t j ])
+    around-letters = letters-word_of (columns_of space pairs) ws (c.last ++ c.first) h.letters
 
     new : List ℤ
     new = forced_word ws p.lower (cycle space p.upper)
@@ -149,11 +92,8 @@ module _ (law : CyclesGoRound) (space : List (List (List ℕ))) (pairs : List Pa
     new-is = ap (λ (r : Bool × List Step). reduced (cond r.0 (inverted (word_of ws r.1)) (word_of ws r.1))) (c.round [])
 
     new-letters : AreLetters (columns_of space pairs) new
-    new-letters = subst (AreLetters (columns_of space pairs)) (sym new-is) (letters-reduced (columns_of space pairs) (cond c.itself.forward (inverted around) around) (by c.itself.forward))
-      where
-        by : (b : Bool) → AreLetters (columns_of space pairs) (cond b (inverted around) around)
-        by true = letters-inverted (columns_of space pairs) around around-letters
-        by false = around-letters
+    unfolding new
+    new-letters = letters-forced (columns_of space pairs) ws p.lower (cycle space p.upper) h.letters
 
     new-short : is_reduced new ≡ true
     new-short = ap is_reduced new-is ∙ reduced_is (cond c.itself.forward (inverted around) around)
@@ -191,10 +131,10 @@ module _ (law : CyclesGoRound) (space : List (List (List ℕ))) (pairs : List Pa
         ∙ (ap (λ (w : List ℤ). reduced (word_of ws c.first ++ (step_word put c.itself ++ w))) (put-rest c.last last_in (λ t j. c.others t (In-left c.first j)))
         ∙ (ap (λ (w : List ℤ). reduced (word_of ws c.first ++ (w ++ word_of ws c.last))) put-step
         ∙ (ap (λ (w : List ℤ). reduced (word_of ws c.first ++ (reduced (inverted w) ++ word_of ws c.last))) (word_of-append ws c.last c.first)
-        ∙ round-closed (word_of ws c.first) (word_of ws c.last) (ok c.first first_in) (ok c.last last_in))))))
+        ∙ round-closed (word_of ws c.first) (word_of ws c.last) (ok c.first) (ok c.last))))))
       where
-        ok : (ss : List Step) → AreWithin (count space 1) ss → are_letters (word_of ws ss) ≡ true
-        ok ss r = letters-are (columns_of space pairs) (word_of ws ss) (word_of-letters (count space 1) (columns_of space pairs) ws h.letters ss r)
+        ok : (ss : List Step) → are_letters (word_of ws ss) ≡ true
+        ok ss = letters-are (columns_of space pairs) (word_of ws ss) (letters-word_of (columns_of space pairs) ws ss h.letters)
 
     -- the uppers of earlier pairs close as before
     earlier-closes : (q : Pair) → In q done → q.dim ≡ 1 → reduced (word_of put (cycle space q.upper)) ≡ []
@@ -213,19 +153,19 @@ module _ (law : CyclesGoRound) (space : List (List (List ℕ))) (pairs : List Pa
                 (before q j).1.free (d ∙ sym k)
                 (In-others space pairs valid q 1 p.lower k (rw e at (round.inside t n)) (λ y. false≢true (sym x ∙ eq-eqb p.lower q.lower y)))
 
-    put-each : (P : List ℤ → Type 0) → ((e : ℕ) → InRange (count space 1) e → P (word_at ws e)) → P new → (e : ℕ) → InRange (count space 1) e → P (word_at put e)
-    put-each P a b e r = by (cases_Bool (e == p.lower))
+    put-short : (e : ℕ) → InRange (count space 1) e → is_reduced (word_at put e) ≡ true
+    put-short e r = by (cases_Bool (e == p.lower))
       where
-        by : ((e == p.lower) ≡ true) ⊎ ((e == p.lower) ≡ false) → P (word_at put e)
-        by (inl x) = subst P (sym (ap (word_at put) (eqb-true e p.lower x) ∙ put-same)) b
-        by (inr x) = subst P (sym (put-other e r (λ y. false≢true (sym x ∙ eq-eqb e p.lower y)))) (a e r)
+        by : ((e == p.lower) ≡ true) ⊎ ((e == p.lower) ≡ false) → is_reduced (word_at put e) ≡ true
+        by (inl x) = ap is_reduced (ap (word_at put) (eqb-true e p.lower x) ∙ put-same) ∙ new-short
+        by (inr x) = ap is_reduced (put-other e r (λ y. false≢true (sym x ∙ eq-eqb e p.lower y))) ∙ h.short e r
 
     put-stage : Stage (done ++ p ∷ []) put
     unfolding put
     put-stage = record {
       long = length-set ws (p.lower - 1) new ∙ h.long;
-      letters = put-each (AreLetters (columns_of space pairs)) h.letters new-letters;
-      short = put-each (λ w. is_reduced w ≡ true) h.short new-short;
+      letters = All-set (AreLetters (columns_of space pairs)) ws (p.lower - 1) new new-letters h.letters;
+      short = put-short;
       kept = λ e r n. put-other e r (λ x. n p (In-last done p) d (sym x)) ∙ h.kept e r (λ q j k x. n q (In-left (p ∷ []) j) k x);
       closed = λ q j k. elim (push-In done p j) [ inl i ↦ earlier-closes q i k | inr x ↦ rw x put-closes ];
     }
@@ -265,12 +205,6 @@ module _ (law : CyclesGoRound) (space : List (List (List ℕ))) (pairs : List Pa
   finished = all-stages [] pairs (map (first_word space pairs) (upto (count space 1))) (λ q i. elim i [ ]) (λ p i. i) (λ q p i. elim i [ ]) (lined-from space pairs valid).lined begun
 
   -- ---- what the words are
-
-  pub words-long : length (words space pairs) ≡ count space 1
-  words-long = finished.long
-
-  pub words-letters : (e : ℕ) → InRange (count space 1) e → AreLetters (columns_of space pairs) (word_at (words space pairs) e)
-  words-letters = finished.letters
 
   pub words-short : (e : ℕ) → InRange (count space 1) e → is_reduced (word_at (words space pairs) e) ≡ true
   words-short = finished.short

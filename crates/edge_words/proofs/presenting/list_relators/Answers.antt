@@ -11,7 +11,8 @@ use Rattle.edge_words.specs.Words.{word_of, cycle_word, critical_disks}
 use Rattle.edge_words.specs.Counting.{IsCounted}
 use Rattle.edge_words.specs.Reducing.{AreWords, AreSteps}
 use Rattle.edge_words.proofs.Counted.{counted-none}
-use Rattle.edge_words.proofs.Stages.{words-are, length-from, disks-are, disk-range, cycle-steps, disk-measured, relators-next, disk-next, disk-fault}
+use Rattle.edge_words.proofs.WordLetters.{length-from}
+use Rattle.edge_words.proofs.Stages.{words-are, disks-are, disk-range, cycle-steps, disk-measured, relators-next, disk-next, disk-fault}
 use Rattle.edge_words.proofs.presenting.list_relators.Goals as goal
 
 pub loop-disk-init : goal.loop-disk-init

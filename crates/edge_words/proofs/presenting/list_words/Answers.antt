@@ -9,7 +9,8 @@ use Rattle.edge_words.specs.Limits.{edge_words}
 use Rattle.edge_words.specs.Counting.{IsCounted}
 use Rattle.edge_words.specs.Reducing.{AreWords}
 use Rattle.edge_words.proofs.Counted.{counted-none}
-use Rattle.edge_words.proofs.Stages.{first, words-are, length-from, incident-is, words-next, count-next, fault-now}
+use Rattle.edge_words.proofs.WordLetters.{first, length-from}
+use Rattle.edge_words.proofs.Stages.{words-are, incident-is, words-next, count-next, fault-now}
 use Rattle.edge_words.proofs.presenting.list_words.Goals as goal
 
 pub loop-index-init : goal.loop-index-init

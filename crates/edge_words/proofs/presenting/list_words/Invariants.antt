@@ -2,7 +2,7 @@ use Rattle.std.proofs.Common.{◌≡◌, take}
 use Rattle.edge_words.specs.Words.{words, words_from}
 use Rattle.edge_words.specs.Limits.{edge_words}
 use Rattle.edge_words.specs.Counting.{IsCounted}
-use Rattle.edge_words.proofs.Stages.{first}
+use Rattle.edge_words.proofs.WordLetters.{first}
 use Rattle.edge_words.proofs.presenting.list_words.Given as goal
 
 abbrev pub invariant-loop-index : goal.invariant-loop-index

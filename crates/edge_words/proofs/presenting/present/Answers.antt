@@ -11,7 +11,8 @@ use Rattle.edge_words.specs.Words.{words, relators, Presented, presentation_of}
 use Rattle.edge_words.specs.Limits.{edge_words, disk_words, first_long, too_long, IsFault}
 use Rattle.edge_words.specs.Counting.{IsCounted}
 use Rattle.edge_words.proofs.Counted.{counted-append, fault-first, fault-second}
-use Rattle.edge_words.proofs.Stages.{columns-few, letters-from, relators-few, relators-letters}
+use Rattle.edge_words.proofs.Stages.{columns-few, relators-few}
+use Rattle.edge_words.proofs.WordLetters.{words-letters, relators-letters}
 use Rattle.edge_words.proofs.presenting.present.Goals as goal
 
 -- what is handed on, said of the space
@@ -84,12 +85,12 @@ new-requires-clause-few c =
 pub new-requires-clause-relators : goal.new-requires-clause-relators
 new-requires-clause-relators c =
     letters-are c.args.regular.now c.args.field.now c.requires c.critical.result.now c.in_ok-generators.generators.items c.critical.ensures.cells c.in_ok-generators.ensures.items c.in_ok-relators.relators
-    (subst (All (AreLetters (columns_of c.args.regular.now c.args.field.now.pairs))) (sym c.in_ok-relators.ensures.relators) (relators-letters c.args.regular.now c.args.field.now.pairs (subst IsLimited c.space-space.ensures.same c.cells-edges.ensures.limited)))
+    (subst (All (AreLetters (columns_of c.args.regular.now c.args.field.now.pairs))) (sym c.in_ok-relators.ensures.relators) (relators-letters c.args.regular.now c.args.field.now.pairs))
 
 pub new-requires-clause-words : goal.new-requires-clause-words
 new-requires-clause-words c =
     letters-are c.args.regular.now c.args.field.now c.requires c.critical.result.now c.in_ok-generators.generators.items c.critical.ensures.cells c.in_ok-generators.ensures.items c.in_ok-words.words
-    (subst (All (AreLetters (columns_of c.args.regular.now c.args.field.now.pairs))) (sym c.in_ok-words.ensures.words) (letters-from c.args.regular.now c.args.field.now.pairs c.args.field.now.pairs))
+    (subst (All (AreLetters (columns_of c.args.regular.now c.args.field.now.pairs))) (sym c.in_ok-words.ensures.words) (words-letters c.args.regular.now c.args.field.now.pairs))
 
 pub returns-clause-presentation : goal.returns-clause-presentation
 returns-clause-presentation c =

@@ -9,13 +9,14 @@ use Rattle.edge_words.specs.declared.fault.WordFault.{WordFault}
 use Rattle.edge_words.specs.Words.{words_from, forced_word}
 use Rattle.edge_words.specs.Limits.{edge_words, first_long, IsFault}
 use Rattle.edge_words.specs.Reducing.{AreSteps}
-use Rattle.edge_words.proofs.Stages.{upper-range, put-measured, cycle-steps}
+use Rattle.edge_words.proofs.FieldCells.{high-range}
+use Rattle.edge_words.proofs.Stages.{put-measured, cycle-steps}
 use Rattle.edge_words.proofs.presenting.settle.Goals as goal
 
 pub force_word-requires-clause-steps : goal.force_word-requires-clause-steps
 force_word-requires-clause-steps c =
     subst (AreSteps c.args.words.now) (sym c.cycle_of.ensures.cycle)
-    (cycle-steps c.cycles_go_round.ensures c.args.regular.now (subst IsSpace c.space-space.ensures.same c.cells-edges.ensures.valid) c.cycle_of.ensures.regular c.args.pair.upper (upper-range c.args.regular.now c.args.pair c.requires.pair c.if-pair-ne1.false)
+    (cycle-steps c.cycles_go_round.ensures c.args.regular.now (subst IsSpace c.space-space.ensures.same c.cells-edges.ensures.valid) c.cycle_of.ensures.regular c.args.pair.upper (high-range c.args.regular.now c.args.pair 1 c.if-pair-ne1.false c.requires.pair)
     c.args.words.now c.requires.edges)
 
 -- the fault of the only measured word
