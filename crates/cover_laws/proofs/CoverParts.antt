@@ -76,7 +76,7 @@ module _ (law : CyclesGoRound) (space : List (List (List ℕ))) (pairs : List Pa
 
   fails-is : (m : ℕ) (q : List ℕ) → is_table (columns_of space pairs) m q ≡ true
       → list_all (never_fails (columns_of space pairs) m q) (relators space pairs) ≡ satisfies (columns_of space pairs) m q (relators space pairs)
-  fails-is m q t = satisfied-is (columns_of space pairs) m q (relators space pairs) t (relators-letters law space pairs is regular valid)
+  fails-is m q t = satisfied-is (columns_of space pairs) m q (relators space pairs) t (relators-letters space pairs)
 
   from-sound : LiftsAreLabellings → 1 ≤ columns_of space pairs → (m : ℕ) (q : List ℕ) → 1 ≤ m → length q ≡ m * columns_of space pairs
       → (sound P m q && is_least (columns_of space pairs) m q) ≡ true → is_cover space pairs (m, q) ≡ true
