@@ -1,0 +1,4 @@
+mod LongCells
+mod Lists
+mod Made
+mod Examples
