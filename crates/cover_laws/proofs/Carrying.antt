@@ -63,7 +63,8 @@ module _ (space : List (List (List ℕ))) (m : ℕ) (is : IsSpace space) (regula
         y = (back_turn m (label u s.edge) pu).into x q
 
         by : (b : Bool)
-            → cond b (at (label w s.edge) (at (label f (get_or (facets_of space 1 s.edge) (cond b 0 1) 0)) x)) (back (label w s.edge) (at (label f (get_or (facets_of space 1 s.edge) (cond b 0 1) 0)) x))
+            → cond b (at (label w s.edge) (at (label f (get_or (facets_of space 1 s.edge) (cond b 0 1) 0)) x))
+            (back (label w s.edge) (at (label f (get_or (facets_of space 1 s.edge) (cond b 0 1) 0)) x))
             ≡ at (label f (get_or (facets_of space 1 s.edge) (cond b 1 0) 0)) (cond b (at (label u s.edge) x) (back (label u s.edge) x))
         by true = sym (h.agrees s.edge x r q)
         by false =

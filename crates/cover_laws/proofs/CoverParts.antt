@@ -66,7 +66,8 @@ module _ (law : CyclesGoRound) (space : List (List (List ℕ))) (pairs : List Pa
   pub cover-transitive : (m : ℕ) (q : List ℕ) → 1 ≤ m → CoverParts m q → IsTransitive (columns_of space pairs) m q
   cover-transitive m q l h = (lifts_are_connected law space pairs m q (lift space pairs m q) is regular valid lone l (lifted m q h.table)).0 h.connected
 
-  pub transitive-connected : (m : ℕ) (q : List ℕ) → 1 ≤ m → is_table (columns_of space pairs) m q ≡ true → IsTransitive (columns_of space pairs) m q → IsConnected space m (lift space pairs m q)
+  pub transitive-connected : (m : ℕ) (q : List ℕ) → 1 ≤ m → is_table (columns_of space pairs) m q ≡ true
+      → IsTransitive (columns_of space pairs) m q → IsConnected space m (lift space pairs m q)
   transitive-connected m q l t h = (lifts_are_connected law space pairs m q (lift space pairs m q) is regular valid lone l (lifted m q t)).1 h
 
   -- ---- the sound and least lists of full length
@@ -104,4 +105,5 @@ module _ (law : CyclesGoRound) (space : List (List (List ℕ))) (pairs : List Pa
   pub sound-covers : LiftsAreLabellings → 1 ≤ columns_of space pairs → (m : ℕ) (q : List ℕ) → 1 ≤ m → length q ≡ m * columns_of space pairs
       → (sound P m q && is_least (columns_of space pairs) m q) ≡ is_cover space pairs (m, q)
   sound-covers labellings some m q l long =
-      same_bool (sound P m q && is_least (columns_of space pairs) m q) (is_cover space pairs (m, q)) (from-sound labellings some m q l long) (to-sound labellings some m q l)
+      same_bool (sound P m q && is_least (columns_of space pairs) m q) (is_cover space pairs (m, q))
+      (from-sound labellings some m q l long) (to-sound labellings some m q l)

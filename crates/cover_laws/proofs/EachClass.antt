@@ -53,7 +53,9 @@ module _ (law : CyclesGoRound) (numbered : ComponentsAreNumbered) (space : List 
   In-covers n m q r e =
       let t = (cover-parts law space pairs h.is h.regular h.good.valid one m q e).table in
       In-flat_map (covers_of space pairs) (In-upto n m r.0 r.1)
-      (In-map (λ (p : List ℕ). (m, p)) (In-filter (λ p. is_cover space pairs (m, p)) (In-lists m (m * columns_of space pairs) q (table-long (columns_of space pairs) m q t) (table-range (columns_of space pairs) m q t)) e))
+      (In-map (λ (p : List ℕ). (m, p))
+      (In-filter (λ p. is_cover space pairs (m, p))
+      (In-lists m (m * columns_of space pairs) q (table-long (columns_of space pairs) m q t) (table-range (columns_of space pairs) m q t)) e))
 
   module _ (n m : ℕ) (u : List (List ℕ)) (r : InRange n m) (labelling : is_labelling space m u ≡ true) (connected : IsConnected space m u) where
     g : IsGauged space pairs m u
@@ -72,7 +74,9 @@ module _ (law : CyclesGoRound) (numbered : ComponentsAreNumbered) (space : List 
     lifts q t = (lifted law space pairs h.is h.regular h.good.valid one m q t).labels
 
     table : is_table (columns_of space pairs) m class.0 ≡ true
-    table = subst (λ (q : List ℕ). is_table (columns_of space pairs) m q ≡ true) (sym class.1.is) (renumbered-table (columns_of space pairs) m g.table class.1.by g.is class.1.permutes)
+    table =
+        subst (λ (q : List ℕ). is_table (columns_of space pairs) m q ≡ true) (sym class.1.is)
+        (renumbered-table (columns_of space pairs) m g.table class.1.by g.is class.1.permutes)
 
     like : Isomorphic space m (lift space pairs m g.table) (lift space pairs m class.0)
     like = (isomorphic_lifts law numbered space pairs m g.table class.0 h g.is table).1 (record { by = class.1.by; permutes = class.1.permutes; is = class.1.is })
@@ -82,8 +86,12 @@ module _ (law : CyclesGoRound) (numbered : ComponentsAreNumbered) (space : List 
         cover-from law space pairs h.is h.regular h.good.valid one m class.0 (record {
           table = table;
           least = class.1.least;
-          labelling = labelling-carried space m h.is h.regular (lift space pairs m g.table) (lift space pairs m class.0) like.0 (lifts g.table g.is) (lifts class.0 table) like.1 law g.labelling;
-          connected = connected-carried space m h.is h.regular (lift space pairs m g.table) (lift space pairs m class.0) like.0 (lifts g.table g.is) (lifts class.0 table) like.1 (g.connected connected);
+          labelling =
+              labelling-carried space m h.is h.regular (lift space pairs m g.table) (lift space pairs m class.0) like.0
+              (lifts g.table g.is) (lifts class.0 table) like.1 law g.labelling;
+          connected =
+              connected-carried space m h.is h.regular (lift space pairs m g.table) (lift space pairs m class.0) like.0
+              (lifts g.table g.is) (lifts class.0 table) like.1 (g.connected connected);
         })
 
     only : (q : List ℕ) → In (m, q) (covers space pairs n) → Isomorphic space m u (lift space pairs m q) → q ≡ class.0

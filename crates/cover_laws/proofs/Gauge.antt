@@ -63,7 +63,8 @@ module _ (space : List (List (List ℕ))) (pairs : List Pair) (is : IsSpace spac
     pub table_of : List ℕ
     table_of = map entry (range_with_len 0 (m * columns_of space pairs))
 
-    table-cell : (s g : ℕ) → InRange m s → InRange (columns_of space pairs) g → cell (columns_of space pairs) table_of s g ≡ at (label w (at (critical_edges space pairs) g)) s
+    table-cell : (s g : ℕ) → InRange m s → InRange (columns_of space pairs) g
+        → cell (columns_of space pairs) table_of s g ≡ at (label w (at (critical_edges space pairs) g)) s
     unfolding table_of
     table-cell s g r q =
         let c = columns_of space pairs in
@@ -81,13 +82,15 @@ module _ (space : List (List (List ℕ))) (pairs : List Pair) (is : IsSpace spac
     table-edge : (g : ℕ) → InRange (columns_of space pairs) g → column (columns_of space pairs) m table_of g ≡ label w (at (critical_edges space pairs) g)
     table-edge g q =
         same_turns m (column (columns_of space pairs) m table_of g) (label w (at (critical_edges space pairs) g))
-        (length-map-range_with_len (λ s. cell (columns_of space pairs) table_of s g) 1 m) (parts-of m (label w (at (critical_edges space pairs) g)) (edge-permutes g q)).long
+        (length-map-range_with_len (λ s. cell (columns_of space pairs) table_of s g) 1 m)
+        (parts-of m (label w (at (critical_edges space pairs) g)) (edge-permutes g q)).long
         (λ s r. at-column (columns_of space pairs) m table_of g s r ∙ table-cell s g r q)
 
     pub table-is : is_table (columns_of space pairs) m table_of ≡ true
     unfolding table_of
     table-is =
-        and_from (length table_of == m * columns_of space pairs) (list_all (λ g. is_permutation m (column (columns_of space pairs) m table_of g)) (upto (columns_of space pairs)))
+        and_from (length table_of == m * columns_of space pairs)
+        (list_all (λ g. is_permutation m (column (columns_of space pairs) m table_of g)) (upto (columns_of space pairs)))
         (eq-eqb (length table_of) (m * columns_of space pairs) (length-map-range_with_len entry 0 (m * columns_of space pairs)))
         (In-all (λ g. is_permutation m (column (columns_of space pairs) m table_of g)) (upto (columns_of space pairs)) (λ g i.
         let q = upto-In (columns_of space pairs) g i in
@@ -128,4 +131,6 @@ module _ (space : List (List (List ℕ))) (pairs : List Pair) (is : IsSpace spac
       whole = labelling-carried space m is regular u w f lu lw carried law e
 
       same : w ≡ lift space pairs m (table_of m w lw)
-      same = table-lift m w lw law (gauged-tree space pairs is regular valid m u lu) (λ p i d. (labelling-parts space m w whole).closed p.upper (upper-range space pairs valid p i d))
+      same =
+          table-lift m w lw law (gauged-tree space pairs is regular valid m u lu)
+          (λ p i d. (labelling-parts space m w whole).closed p.upper (upper-range space pairs valid p i d))

@@ -47,7 +47,8 @@ module _ (space : List (List (List ℕ))) (m : ℕ) (is : IsSpace space) (regula
         ∙ (ap (back (label f b)) (sym (h.agrees e (back (label f a) s) r t))
         ∙ back-of-at m (label f b) (over b (far-range e r)) (at (label u e) (back (label f a) s)) (label-into u l e (back (label f a) s) r t))
 
-    pub carries-back : (into : (e s : ℕ) → InRange (count space 1) e → InRange m s → InRange m (at (label w e) s)) → Carries space m w u (family (count space 0) m undo)
+    pub carries-back : (into : (e s : ℕ) → InRange (count space 1) e → InRange m s → InRange m (at (label w e) s))
+        → Carries space m w u (family (count space 0) m undo)
     carries-back into = record {
       one_for_each = family-long (count space 0) m undo;
       permutations = family-permutes (count space 0) m undo (λ v r. back_turn m (label f v) (over v r));
@@ -67,7 +68,9 @@ module _ (space : List (List (List ℕ))) (m : ℕ) (is : IsSpace space) (regula
       pub carries-then : Carries space m u z (family (count space 0) m both)
       carries-then = record {
         one_for_each = family-long (count space 0) m both;
-        permutations = family-permutes (count space 0) m both (λ v r. turn_then m (at (label f v)) (at (label g v)) (turn_of m (label f v) (over v r)) (turn_of m (label g v) (next v r)));
+        permutations =
+            family-permutes (count space 0) m both
+            (λ v r. turn_then m (at (label f v)) (at (label g v)) (turn_of m (label f v) (over v r)) (turn_of m (label g v) (next v r)));
         agrees = λ e s r q.
             let a = get_or (facets_of space 1 e) 0 0 in
             let b = get_or (facets_of space 1 e) 1 0 in

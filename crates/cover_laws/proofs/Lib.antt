@@ -1,6 +1,7 @@
 mod Carrying
 mod CoverParts
 mod EachClass
+mod Examples
 mod Families
 mod Gauge
 mod Isomorphisms

@@ -12,7 +12,7 @@ use Rattle.face_poset.specs.Poset.{count, IsSpace}
 use Rattle.regular_check.specs.Rules.{IsRegular}
 use Rattle.regular_check.specs.Cycle.{CyclesGoRound}
 use Rattle.vector_field.specs.Pairs.{unpaired, IsValid}
-use Rattle.sheet_laws.specs.Permutations.{InRange, lists}
+use Rattle.sheet_laws.specs.Permutations.{lists}
 use Rattle.sheet_laws.specs.Tables.{is_least}
 use Rattle.sheet_laws.specs.Lifts.{columns_of, is_cover}
 use Rattle.live_laws.specs.Trees.{from, beyond}
@@ -34,7 +34,9 @@ filter-filter : {A : Type 0} (p q : A → Bool) (xs : List A) → filter p (filt
 filter-filter p q [] = refl
 filter-filter {A} p q (x ∷ xs) = by (q x) (filter-filter p q xs)
   where
-    by : (b : Bool) → filter p (filter q xs) ≡ filter (λ y. q y && p y) xs → filter p (cond b (x ∷ filter q xs) (filter q xs)) ≡ cond (b && p x) (x ∷ filter (λ y. q y && p y) xs) (filter (λ y. q y && p y) xs)
+    by : (b : Bool) → filter p (filter q xs) ≡ filter (λ y. q y && p y) xs
+        → filter p (cond b (x ∷ filter q xs) (filter q xs))
+        ≡ cond (b && p x) (x ∷ filter (λ y. q y && p y) xs) (filter (λ y. q y && p y) xs)
     by true e = ap (λ (ys : List A). cond (p x) (x ∷ ys) ys) e
     by false e = e
 
@@ -67,30 +69,33 @@ some-cell m c l k = omega (arith, l, mul-le-mul_left m k, mul-one m)
 
 -- ---- sheet by sheet
 
-module _ (law : CyclesGoRound) (labellings : LiftsAreLabellings) (space : List (List (List ℕ))) (pairs : List Pair) (is : IsSpace space) (regular : IsRegular space) (valid : IsValid space pairs)
-    (lone : length (unpaired pairs 0 (count space 0)) ≡ 1) (some : 1 ≤ columns_of space pairs) where
+module _ (law : CyclesGoRound) (labellings : LiftsAreLabellings) (space : List (List (List ℕ))) (pairs : List Pair)
+    (is : IsSpace space) (regular : IsRegular space) (valid : IsValid space pairs) (lone : length (unpaired pairs 0 (count space 0)) ≡ 1) (some : 1 ≤ columns_of space pairs) where
   abbrev P : Relations
   P = relations_at space pairs
 
   abbrev c : ℕ
   c = columns_of space pairs
 
-  listed-of : (m : ℕ) → InRange m m → filter (is_listed P) (live_of P m) ≡ covers_of space pairs m
-  listed-of m r =
+  listed-of : (m : ℕ) → 1 ≤ m → filter (is_listed P) (live_of P m) ≡ covers_of space pairs m
+  listed-of m l =
       filter-map (is_listed P) (λ q. (m, q)) (filter (is_live P m) (beyond m (m * c) []))
       ∙ ap (map (λ q. (m, q))) (ap (filter (λ q. is_listed P (m, q))) (live-sound P m (m * c) [])
       ∙ (filter-filter (λ q. is_listed P (m, q)) (sound P m) (beyond m (m * c) [])
-      ∙ (filter-agree (λ q. sound P m q && ((length q == m * c) && is_least c m q)) (λ q. (length q == m * c) && (sound P m q && is_least c m q)) (beyond m (m * c) [])
+      ∙ (filter-agree (λ q. sound P m q && ((length q == m * c) && is_least c m q))
+      (λ q. (length q == m * c) && (sound P m q && is_least c m q)) (beyond m (m * c) [])
       (λ q i. between (sound P m q) (length q == m * c) (is_least c m q))
       ∙ (sym (filter-filter (λ q. sound P m q && is_least c m q) (λ q. length q == m * c) (beyond m (m * c) []))
-      ∙ (ap (filter (λ q. sound P m q && is_least c m q)) (full-lists m (m * c) (some-cell m c r.0 some))
+      ∙ (ap (filter (λ q. sound P m q && is_least c m q)) (full-lists m (m * c) (some-cell m c l some))
       ∙ filter-agree (λ q. sound P m q && is_least c m q) (λ q. is_cover space pairs (m, q)) (lists m (m * c))
-      (λ q i. sound-covers law space pairs is regular valid lone labellings some m q r.0 (lists-long m (m * c) q i)))))))
+      (λ q i. sound-covers law space pairs is regular valid lone labellings some m q l (lists-long m (m * c) q i)))))))
 
   pub listed-covers : (n : ℕ) (t : Position) → listed P n t ≡ covers_after space pairs n t
   listed-covers n t =
-      ap (λ (b : Bool). elim b [ true ↦ (1, []) ∷ [] | false ↦ filter (is_listed P) (live P n t) ]) (false_from_ne_true (c == 0) (λ e. absurd (omega (arith, some, eqb-true c 0 e))))
+      ap (λ (b : Bool). elim b [ true ↦ (1, []) ∷ [] | false ↦ filter (is_listed P) (live P n t) ])
+      (false_from_ne_true (c == 0) (λ e. absurd (omega (arith, some, eqb-true c 0 e))))
       ∙ (filter-turned (is_listed P) (comes_after t) (flat_map (live_of P) (from 1 n))
       ∙ ap (filter (comes_after t)) (filter-flat_map (is_listed P) (live_of P) (from 1 n)
       ∙ (ap (flat_map (λ m. filter (is_listed P) (live_of P m))) (from-range 1 n)
-      ∙ flat_map-alike (λ m. filter (is_listed P) (live_of P m)) (covers_of space pairs) (upto n) (λ m i. (let r = upto-In n m i in listed-of m (r.0, omega arith))))))
+      ∙ flat_map-alike (λ m. filter (is_listed P) (live_of P m)) (covers_of space pairs) (upto n)
+      (λ m i. (let r = upto-In n m i in listed-of m r.0)))))

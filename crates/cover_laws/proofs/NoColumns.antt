@@ -13,7 +13,7 @@ use Rattle.regular_check.specs.Cycle.{cycle, CyclesGoRound}
 use Rattle.vector_field.specs.Pairs.{unpaired, IsValid}
 use Rattle.sheet_laws.specs.Permutations.{InRange, is_permutation, lists}
 use Rattle.sheet_laws.specs.Tables.{column, is_table, precedes, renumbered, is_least, Reached, first, along, against}
-use Rattle.sheet_laws.specs.Labellings.{walk}
+use Rattle.sheet_laws.specs.Labellings.{walk, closes}
 use Rattle.sheet_laws.specs.Lifts.{columns_of, IsLift, lift, is_cover}
 use Rattle.sheet_laws.proofs.CallerLemmas.{least_is_exact, walk-into, closes-from}
 use Rattle.live_laws.specs.Live.{Relations, Position, may_follow, follows, sound, is_live, comes_after, listed, live, is_listed}
@@ -65,8 +65,9 @@ module _ (law : CyclesGoRound) (space : List (List (List ℕ))) (pairs : List Pa
       cover-from law space pairs is regular valid lone 1 [] (record {
         table = table;
         least = empty-least (columns_of space pairs) 1 none;
-        labelling = labelling-from space 1 (lift space pairs 1 []) (record { some = omega arith; labels = l.labels; closed = λ d r. closes-from 1 (lift space pairs 1 []) (cycle space d) (λ x q. one x (walk (lift space pairs 1 []) (cycle space d) x) q (walk-into 1 (count space 1) (lift space pairs 1 []) l.labels.one_for_each l.labels.permutations (cycle space d) (cycle-within law space is regular d r) x q)) });
-        connected = transitive-connected law space pairs is regular valid lone 1 [] (omega arith) table (λ s r. (let e : 1 ≡ s = omega (arith, r.0, r.1) in subst (λ (k : ℕ). Reached (columns_of space pairs) 1 [] k) e first));
+        labelling = labelling-from space 1 (lift space pairs 1 []) (record { some = omega arith; labels = l.labels; closed = closed });
+        connected = transitive-connected law space pairs is regular valid lone 1 [] (omega arith) table (λ s r.
+            (let e : 1 ≡ s = omega (arith, r.0, r.1) in subst (λ (k : ℕ). Reached (columns_of space pairs) 1 [] k) e first));
       })
     where
       table : is_table (columns_of space pairs) 1 [] ≡ true
@@ -77,6 +78,13 @@ module _ (law : CyclesGoRound) (space : List (List (List ℕ))) (pairs : List Pa
 
       one : (x y : ℕ) → InRange 1 x → InRange 1 y → y ≡ x
       one x y q r = omega (arith, q.0, q.1, r.0, r.1)
+
+      closed : (d : ℕ) → InRange (count space 2) d → closes 1 (lift space pairs 1 []) (cycle space d) ≡ true
+      closed d r =
+          closes-from 1 (lift space pairs 1 []) (cycle space d) (λ x q.
+          one x (walk (lift space pairs 1 []) (cycle space d) x) q
+          (walk-into 1 (count space 1) (lift space pairs 1 []) l.labels.one_for_each l.labels.permutations (cycle space d)
+          (cycle-within law space is regular d r) x q))
 
   no-more : (m : ℕ) → 2 ≤ m → is_cover space pairs (m, []) ≡ false
   no-more m l = false_from_ne_true (is_cover space pairs (m, [])) (λ e.
@@ -104,10 +112,13 @@ module _ (law : CyclesGoRound) (space : List (List (List ℕ))) (pairs : List Pa
   covers-one zero l = absurd (omega (arith, l))
   covers-one (suc n) l =
       ap (λ (ys : List Position). ys ++ flat_map (covers_of space pairs) (range_with_len (1 + 1) n)) covers-of_one
-      ∙ ap (λ (ys : List Position). (1, []) ∷ ys) (flat_map-alike (covers_of space pairs) nothing (range_with_len (1 + 1) n) (λ m i. covers-of_more m ((range-In (1 + 1) n m i).0)) ∙ none-joined (range_with_len (1 + 1) n))
+      ∙ ap (λ (ys : List Position). (1, []) ∷ ys) (flat_map-alike (covers_of space pairs) nothing (range_with_len (1 + 1) n)
+      (λ m i. covers-of_more m ((range-In (1 + 1) n m i).0))
+      ∙ none-joined (range_with_len (1 + 1) n))
 
   pub listed-one : (n : ℕ) (t : Position) → 1 ≤ n → CanStart (relations_at space pairs) n t → listed (relations_at space pairs) n t ≡ covers_after space pairs n t
   listed-one n t l (inr h) = absurd (none-live (relations_at space pairs) t.0 t.1 none h.1)
   listed-one n t l (inl e) =
-      ap (λ (b : Bool). elim b [ true ↦ (1, []) ∷ [] | false ↦ filter (is_listed (relations_at space pairs)) (live (relations_at space pairs) n t) ]) (eq-eqb (columns_of space pairs) 0 none)
+      ap (λ (b : Bool). elim b [ true ↦ (1, []) ∷ [] | false ↦ filter (is_listed (relations_at space pairs)) (live (relations_at space pairs) n t) ])
+      (eq-eqb (columns_of space pairs) 0 none)
       ∙ sym (ap (λ (z : Position). filter (comes_after z) (covers space pairs n)) e ∙ ap (filter (comes_after (0, []))) (covers-one n l))

@@ -36,7 +36,8 @@ module _ (space : List (List (List ℕ))) (pairs : List Pair) (is : IsSpace spac
     pass : (p : Pair) → In p pairs → p.dim ≡ 0 → ((g : ℕ) → In g (others space p) → (x : ℕ) → InRange m x → at (label f g) x ≡ at (label f root) x)
         → (x : ℕ) → InRange m x → at (label f p.lower) x ≡ at (label f root) x
     pass p i d k x q =
-        ap (λ (v : ℕ). at (label f v) x) (sym br.starts) ∙ (by (get_or (facets_of space 1 p.upper) 0 0 == p.lower) ∙ k (end_of space (branch_step space p)) br.leads x q)
+        ap (λ (v : ℕ). at (label f v) x) (sym br.starts)
+        ∙ (by (get_or (facets_of space 1 p.upper) 0 0 == p.lower) ∙ k (end_of space (branch_step space p)) br.leads x q)
       where
         br : IsBranch space pairs is regular valid p
         br = branch space pairs is regular valid p i d
@@ -50,7 +51,8 @@ module _ (space : List (List (List ℕ))) (pairs : List Pair) (is : IsSpace spac
             ∙ (h.agrees p.upper x br.range q
             ∙ (ap (λ (g : List ℕ). at g (at (label f (get_or (facets_of space 1 p.upper) 0 0)) x)) (b.tree p i d)
             ∙ at_identity m (at (label f (get_or (facets_of space 1 p.upper) 0 0)) x)
-            ((turn_of m (label f (get_or (facets_of space 1 p.upper) 0 0)) (over-permutes (get_or (facets_of space 1 p.upper) 0 0) (ends-of space p.upper is regular br.range).first)).into x q)))
+            ((turn_of m (label f (get_or (facets_of space 1 p.upper) 0 0))
+            (over-permutes (get_or (facets_of space 1 p.upper) 0 0) (ends-of space p.upper is regular br.range).first)).into x q)))
 
         by : (c : Bool) → at (label f (get_or (facets_of space 1 p.upper) (cond c 0 1) 0)) x ≡ at (label f (get_or (facets_of space 1 p.upper) (cond c 1 0) 0)) x
         by true = sym along
@@ -69,7 +71,8 @@ module _ (space : List (List (List ℕ))) (pairs : List Pair) (is : IsSpace spac
         let er = edge-range space pairs is regular valid g r in
         let ends = ends-of space e is regular er in
         let y : InRange m (at (label f root) x) = (turn_of m (label f root) (over-permutes root root-range)).into x q in
-        let z : InRange m (at (label u e) x) = (turn_of m (label u e) (label-permutes m (count space 1) u a.labels.one_for_each a.labels.permutations e er)).into x q in
+        let pe = label-permutes m (count space 1) u a.labels.one_for_each a.labels.permutations e er in
+        let z : InRange m (at (label u e) x) = (turn_of m (label u e) pe).into x q in
         ap (at (label f root)) (sym (ap (λ (k : List ℕ). at k x) (a.columns g r) ∙ at-column c m s g x q))
         ∙ (sym (over-same (get_or (facets_of space 1 e) 1 0) ends.second (at (label u e) x) z)
         ∙ (h.agrees e x er q
@@ -97,7 +100,9 @@ module _ (space : List (List (List ℕ))) (pairs : List Pair) (is : IsSpace spac
 
     alike-permute : list_all (is_permutation m) alike ≡ true
     unfolding alike
-    alike-permute = In-all (is_permutation m) (map (λ v. f) (upto (count space 0))) (λ g i. (let r = map-In (λ v. f) (upto (count space 0)) i in ap (is_permutation m) r.2 ∙ p))
+    alike-permute =
+        In-all (is_permutation m) (map (λ v. f) (upto (count space 0)))
+        (λ g i. (let r = map-In (λ v. f) (upto (count space 0)) i in ap (is_permutation m) r.2 ∙ p))
 
     label-alike : (v : ℕ) → InRange (count space 0) v → label alike v ≡ f
     unfolding alike
@@ -119,7 +124,8 @@ module _ (space : List (List (List ℕ))) (pairs : List Pair) (is : IsSpace spac
     other-at e x r q =
         let ends = ends-of space e is regular r in
         moved-at space m is regular u alike a.labels alike-long alike-permute e x r q
-        ∙ (ap (λ (k : List ℕ). at k (at (label u e) (back (label alike (get_or (facets_of space 1 e) 0 0)) x))) (label-alike (get_or (facets_of space 1 e) 1 0) ends.second)
+        ∙ (ap (λ (k : List ℕ). at k (at (label u e) (back (label alike (get_or (facets_of space 1 e) 0 0)) x)))
+        (label-alike (get_or (facets_of space 1 e) 1 0) ends.second)
         ∙ ap (λ (k : List ℕ). at f (at (label u e) (back k x))) (label-alike (get_or (facets_of space 1 e) 0 0) ends.first))
 
     other-long : (e : ℕ) → InRange (count space 1) e → length (label other e) ≡ m

@@ -1,11 +1,11 @@
 -- The one critical vertex of a good field on a space with one component, and how many columns there are.
 use Rattle.std.proofs.Common.{◌≡◌, inl, inr, ℕ, ◌+◌, ◌≤◌, List, [], ◌∷◌, ◌++◌, map, length, filter, get_or, refl, ap, arith, sym, ◌∙◌, subst, Bool, true}
 use Rattle.std.specs.Prelude.{◌==◌, not}
-use Rattle.std.proofs.lemmas.Bool.{eq-eqb, eqb-true}
+use Rattle.std.proofs.lemmas.Bool.{eq-eqb}
 use Rattle.std.proofs.lemmas.List.{length-append, length-map}
 use Rattle.number_lists.specs.Members.{In, here, there}
 use Rattle.number_lists.specs.Words.{upto}
-use Rattle.number_lists.proofs.CallerLemmas.{In-cases, In-filter, filter-In, In-inside, upto-In, In-upto, at-In, In-map, map-In, append-In, In-left, In-right, length-upto}
+use Rattle.number_lists.proofs.CallerLemmas.{In-cases, In-filter, In-inside, upto-In, In-upto, at-In, In-map, map-In, append-In, In-left, In-right, length-upto}
 use Rattle.pair_laws.specs.Tree.{distinct}
 use Rattle.pair_laws.proofs.CallerLemmas.{no_more}
 use Rattle.face_poset.specs.declared.cells.Pair.{Pair}
@@ -13,12 +13,12 @@ use Rattle.face_poset.specs.Poset.{count, IsSpace}
 use Rattle.regular_check.specs.Rules.{IsRegular}
 use Rattle.regular_check.specs.Components.{component_of, ComponentsAreNumbered}
 use Rattle.vector_field.specs.Pairs.{is_used, unpaired, IsValid}
-use Rattle.vector_field.proofs.CallerLemmas.{Lined, lined-filter, Goes, lined-from}
+use Rattle.vector_field.proofs.CallerLemmas.{Lined, Goes}
 use Rattle.sheet_laws.specs.Permutations.{InRange}
 use Rattle.sheet_laws.specs.Lifts.{critical_edges, columns_of}
 use Rattle.sheet_laws.proofs.CallerLemmas.{distinct-cons, distinct-tail, distinct-head, distinct-range, distinct-filter, critical-range, critical-no_tree, over-vertices}
 use Rattle.cover_laws.specs.Laws.{HasGoodField, ColumnsAreFew}
-use Rattle.cover_laws.proofs.TreeTurns.{branch}
+use Rattle.cover_laws.proofs.TreeTurns.{branches, branch-in, branch-dim, branch, branches-go}
 
 filter-whole : (p : ℕ → Bool) (xs : List ℕ) → ((x : ℕ) → In x xs → p x ≡ true) → filter p xs ≡ xs
 filter-whole p [] h = refl
@@ -41,7 +41,9 @@ module _ (numbered : ComponentsAreNumbered) (space : List (List (List ℕ))) (pa
 
   pub root-range : InRange (count space 0) root
   unfolding root
-  root-range = upto-In (count space 0) root (In-inside (λ c. not (is_used pairs 0 c)) (upto (count space 0)) (at-In (unpaired pairs 0 (count space 0)) 0 0 (omega (arith, lone))))
+  root-range =
+      upto-In (count space 0) root
+      (In-inside (λ c. not (is_used pairs 0 c)) (upto (count space 0)) (at-In (unpaired pairs 0 (count space 0)) 0 0 (omega (arith, lone))))
 
   pub only-root : (v : ℕ) → In v (unpaired pairs 0 (count space 0)) → v ≡ root
   unfolding root
@@ -61,15 +63,6 @@ distinct-append (x ∷ xs) ys a b n =
     (distinct-append xs ys (distinct-tail x xs a) b (λ y i j. n y (there i) j))
 
 module _ (space : List (List (List ℕ))) (pairs : List Pair) (is : IsSpace space) (regular : IsRegular space) (valid : IsValid space pairs) where
-  abbrev tree_pairs : List Pair
-  tree_pairs = filter (λ (p : Pair). p.dim == 0) pairs
-
-  tree-in : (p : Pair) → In p tree_pairs → In p pairs
-  tree-in p i = In-inside (λ (p : Pair). p.dim == 0) pairs i
-
-  tree-dim : (p : Pair) → In p tree_pairs → p.dim ≡ 0
-  tree-dim p i = eqb-true p.dim 0 (filter-In (λ (p : Pair). p.dim == 0) pairs i)
-
   uppers-distinct : (ps : List Pair) → Lined (Goes space) ps → ((p : Pair) → In p ps → p.dim ≡ 0) → distinct (map (λ (p : Pair). p.upper) ps) ≡ true
   uppers-distinct [] l d = refl
   uppers-distinct (p ∷ ps) l d =
@@ -79,37 +72,41 @@ module _ (space : List (List (List ℕ))) (pairs : List Pair) (is : IsSpace spac
       (uppers-distinct ps l.1 (λ q i. d q (there i)))
 
   -- each vertex is critical or the lower of a pair
-  vertices-are : (v : ℕ) → In v (upto (count space 0)) → In v (unpaired pairs 0 (count space 0) ++ map (λ (p : Pair). p.lower) tree_pairs)
+  vertices-are : (v : ℕ) → In v (upto (count space 0)) → In v (unpaired pairs 0 (count space 0) ++ map (λ (p : Pair). p.lower) (branches pairs))
   vertices-are v i =
-      over-vertices space pairs is valid (λ v. In v (unpaired pairs 0 (count space 0) ++ map (λ (p : Pair). p.lower) tree_pairs))
-      (λ v j. In-left (map (λ (p : Pair). p.lower) tree_pairs) j)
+      over-vertices space pairs is valid (λ v. In v (unpaired pairs 0 (count space 0) ++ map (λ (p : Pair). p.lower) (branches pairs)))
+      (λ v j. In-left (map (λ (p : Pair). p.lower) (branches pairs)) j)
       (λ p j d n. In-right (unpaired pairs 0 (count space 0)) (In-map (λ (p : Pair). p.lower) (In-filter (λ (p : Pair). p.dim == 0) j (eq-eqb p.dim 0 d))))
       v (upto-In (count space 0) v i)
 
-  vertices-few : count space 0 ≤ length (unpaired pairs 0 (count space 0)) + length tree_pairs
+  vertices-few : count space 0 ≤ length (unpaired pairs 0 (count space 0)) + length (branches pairs)
   vertices-few =
-      let n = no_more (upto (count space 0)) (unpaired pairs 0 (count space 0) ++ map (λ (p : Pair). p.lower) tree_pairs) (distinct-range 1 (count space 0)) vertices-are in
-      omega (arith, n, length-upto (count space 0), length-append (unpaired pairs 0 (count space 0)) (map (λ (p : Pair). p.lower) tree_pairs), length-map tree_pairs (λ (p : Pair). p.lower))
+      let lowers = map (λ (p : Pair). p.lower) (branches pairs) in
+      let n = no_more (upto (count space 0)) (unpaired pairs 0 (count space 0) ++ lowers) (distinct-range 1 (count space 0)) vertices-are in
+      let k = length-append (unpaired pairs 0 (count space 0)) lowers in
+      omega (arith, n, length-upto (count space 0), k, length-map (branches pairs) (λ (p : Pair). p.lower))
 
-  edges-many : columns_of space pairs + length tree_pairs ≤ count space 1
+  edges-many : columns_of space pairs + length (branches pairs) ≤ count space 1
   edges-many =
-      let n = no_more (critical_edges space pairs ++ map (λ (p : Pair). p.upper) tree_pairs) (upto (count space 1)) once inside in
-      omega (arith, n, length-upto (count space 1), length-append (critical_edges space pairs) (map (λ (p : Pair). p.upper) tree_pairs), length-map tree_pairs (λ (p : Pair). p.upper))
+      let n = no_more (critical_edges space pairs ++ map (λ (p : Pair). p.upper) (branches pairs)) (upto (count space 1)) once inside in
+      let k = length-append (critical_edges space pairs) (map (λ (p : Pair). p.upper) (branches pairs)) in
+      omega (arith, n, length-upto (count space 1), k, length-map (branches pairs) (λ (p : Pair). p.upper))
     where
-      once : distinct (critical_edges space pairs ++ map (λ (p : Pair). p.upper) tree_pairs) ≡ true
+      once : distinct (critical_edges space pairs ++ map (λ (p : Pair). p.upper) (branches pairs)) ≡ true
       once =
-          distinct-append (critical_edges space pairs) (map (λ (p : Pair). p.upper) tree_pairs) (distinct-filter (λ e. not (is_used pairs 1 e)) (upto (count space 1)) (distinct-range 1 (count space 1)))
-          (uppers-distinct tree_pairs (lined-filter (Goes space) (λ (p : Pair). p.dim == 0) pairs (lined-from space pairs valid).lined) tree-dim)
+          distinct-append (critical_edges space pairs) (map (λ (p : Pair). p.upper) (branches pairs))
+          (distinct-filter (λ e. not (is_used pairs 1 e)) (upto (count space 1)) (distinct-range 1 (count space 1)))
+          (uppers-distinct (branches pairs) (branches-go space pairs is regular valid) (branch-dim pairs))
           (λ e i j.
-          let r = map-In (λ (p : Pair). p.upper) tree_pairs j in
-          critical-no_tree space pairs valid r.0 (tree-in r.0 r.1) (tree-dim r.0 r.1) (subst (λ (k : ℕ). In k (critical_edges space pairs)) r.2 i))
+          let r = map-In (λ (p : Pair). p.upper) (branches pairs) j in
+          critical-no_tree space pairs valid r.0 (branch-in pairs r.0 r.1) (branch-dim pairs r.0 r.1) (subst (λ (k : ℕ). In k (critical_edges space pairs)) r.2 i))
 
-      inside : (e : ℕ) → In e (critical_edges space pairs ++ map (λ (p : Pair). p.upper) tree_pairs) → In e (upto (count space 1))
-      inside e i = elim (append-In (critical_edges space pairs) (map (λ (p : Pair). p.upper) tree_pairs) i) [
+      inside : (e : ℕ) → In e (critical_edges space pairs ++ map (λ (p : Pair). p.upper) (branches pairs)) → In e (upto (count space 1))
+      inside e i = elim (append-In (critical_edges space pairs) (map (λ (p : Pair). p.upper) (branches pairs)) i) [
         | inl j ↦ (let r = critical-range space pairs valid e j in In-upto (count space 1) e r.0 r.1)
         | inr j ↦
-            let r = map-In (λ (p : Pair). p.upper) tree_pairs j in
-            let q = (branch space pairs is regular valid r.0 (tree-in r.0 r.1) (tree-dim r.0 r.1)).range in
+            let r = map-In (λ (p : Pair). p.upper) (branches pairs) j in
+            let q = (branch space pairs is regular valid r.0 (branch-in pairs r.0 r.1) (branch-dim pairs r.0 r.1)).range in
             subst (λ (k : ℕ). In k (upto (count space 1))) (sym r.2) (In-upto (count space 1) r.0.upper q.0 q.1)
       ]
 

@@ -65,6 +65,17 @@ lined-weaker R S (p ∷ ps) l h = (λ q i. h p q here (there i) (l.0 q i), lined
 
 -- ---- the edges that are paired with vertices
 
+-- the pairs of vertices
+abbrev pub branches : List Pair → List Pair
+branches pairs = filter (λ (p : Pair). p.dim == 0) pairs
+
+module _ (pairs : List Pair) (p : Pair) (i : In p (branches pairs)) where
+  pub branch-in : In p pairs
+  branch-in = In-inside (λ (p : Pair). p.dim == 0) pairs i
+
+  pub branch-dim : p.dim ≡ 0
+  branch-dim = eqb-true p.dim 0 (filter-In (λ (p : Pair). p.dim == 0) pairs i)
+
 -- the step from the vertex along its edge
 abbrev pub branch_step : List (List (List ℕ)) → Pair → Step
 branch_step space p = step_from space p.lower p.upper
@@ -113,28 +124,22 @@ module _ (space : List (List (List ℕ))) (pairs : List Pair) (is : IsSpace spac
       ends_are : (start_of space (branch_step space p) ≡ p.lower) × In (end_of space (branch_step space p)) (others space p)
       ends_are = by (get_or (facets_of space 1 p.upper) 0 0 == p.lower) refl
 
-  -- the pairs of vertices
-  abbrev pub branches : List Pair
-  branches = filter (λ (p : Pair). p.dim == 0) pairs
-
-  branch-in : (p : Pair) → In p branches → In p pairs
-  branch-in p i = In-inside (λ (p : Pair). p.dim == 0) pairs i
-
-  branch-dim : (p : Pair) → In p branches → p.dim ≡ 0
-  branch-dim p i = eqb-true p.dim 0 (filter-In (λ (p : Pair). p.dim == 0) pairs i)
-
   abbrev towards : Pair → ℕ
   towards p = end_of space (branch_step space p)
 
-  branches-lined : Lined (Before towards (λ p x. x)) branches
+  pub branches-go : Lined (Goes space) (branches pairs)
+  branches-go = lined-filter (Goes space) (λ (p : Pair). p.dim == 0) pairs (lined-from space pairs valid).lined
+
+  branches-lined : Lined (Before towards (λ p x. x)) (branches pairs)
   branches-lined =
-      lined-weaker (Goes space) (Before towards (λ p x. x)) branches (lined-filter (Goes space) (λ (p : Pair). p.dim == 0) pairs (lined-from space pairs valid).lined) (λ p q i j g. (
-        λ e. g.apart.0 (inl (branch-dim p i ∙ sym (branch-dim q j), e)),
-        λ e. g.free (branch-dim q j ∙ sym (branch-dim p i)) (subst (λ (v : ℕ). In v (others space p)) e (branch p (branch-in p i) (branch-dim p i)).leads),
+      lined-weaker (Goes space) (Before towards (λ p x. x)) (branches pairs)
+      branches-go (λ p q i j g. (
+        λ e. g.apart.0 (inl (branch-dim pairs p i ∙ sym (branch-dim pairs q j), e)),
+        λ e. g.free (branch-dim pairs q j ∙ sym (branch-dim pairs p i)) (subst (λ (v : ℕ). In v (others space p)) e (branch p (branch-in pairs p i) (branch-dim pairs p i)).leads),
       ))
 
-  not-back : (p : Pair) → In p branches → towards p ≡ p.lower → ⊥
-  not-back p i e = not-itself space p (subst (λ (v : ℕ). In v (others space p)) e (branch p (branch-in p i) (branch-dim p i)).leads)
+  not-back : (p : Pair) → In p (branches pairs) → towards p ≡ p.lower → ⊥
+  not-back p i e = not-itself space p (subst (λ (v : ℕ). In v (others space p)) e (branch p (branch-in pairs p i) (branch-dim pairs p i)).leads)
 
   -- ---- the turns of a family of labels
 
@@ -153,11 +158,12 @@ module _ (space : List (List (List ℕ))) (pairs : List Pair) (is : IsSpace spac
         by false = back_turn m (label u s.edge) p
 
     abbrev tree_turn : ℕ → ℕ → ℕ
-    tree_turn = turned towards over branches (λ v x. x)
+    tree_turn = turned towards over (branches pairs) (λ v x. x)
 
     tree-turns : (v : ℕ) → Turn m (tree_turn v)
     tree-turns v =
-        turned-turn towards over m branches (λ v x. x) (λ p i. step-turn (branch_step space p) (branch p (branch-in p i) (branch-dim p i)).range) (λ v. turn_id m) v
+        turned-turn towards over m (branches pairs) (λ v x. x)
+        (λ p i. step-turn (branch_step space p) (branch p (branch-in pairs p i) (branch-dim pairs p i)).range) (λ v. turn_id m) v
 
     pub turns : List (List ℕ)
     turns = family (count space 0) m tree_turn
@@ -183,13 +189,13 @@ module _ (space : List (List (List ℕ))) (pairs : List Pair) (is : IsSpace spac
     gauged-carries = moved-carries space m is regular u turns lu turns-long turns-permute
 
     -- a step along a branch leaves each sheet
-    branch-step : (p : Pair) → (i : In p branches) → (y : ℕ) → InRange m y → step gauged (branch_step space p) y ≡ y
+    branch-step : (p : Pair) → (i : In p (branches pairs)) → (y : ℕ) → InRange m y → step gauged (branch_step space p) y ≡ y
     unfolding turns
     branch-step p i y q =
         ap (step gauged s) (sym (at-of-back m (label turns (start_of space s)) pv y q))
         ∙ (step-carried space m is regular u gauged turns lu gauged-labels gauged-carries s b.range x qx
         ∙ (at-family (count space 0) m tree_turn (end_of space s) (step u s x) (end-range space m is regular s b.range) ((step-turn s b.range).into x qx)
-        ∙ (sym (agree towards over branches (λ v x. x) x (branches-lined) not-back i)
+        ∙ (sym (agree towards over (branches pairs) (λ v x. x) x branches-lined not-back i)
         ∙ (ap (λ (v : ℕ). tree_turn v x) (sym b.starts)
         ∙ (sym (at-family (count space 0) m tree_turn (start_of space s) x (start-range space m is regular s b.range) qx)
         ∙ at-of-back m (label turns (start_of space s)) pv y q)))))
@@ -198,7 +204,7 @@ module _ (space : List (List (List ℕ))) (pairs : List Pair) (is : IsSpace spac
         s = branch_step space p
 
         b : IsBranch p
-        b = branch p (branch-in p i) (branch-dim p i)
+        b = branch p (branch-in pairs p i) (branch-dim pairs p i)
 
         pv : is_permutation m (label turns (start_of space s)) ≡ true
         pv = label-permutes m (count space 0) turns turns-long turns-permute (start_of space s) (start-range space m is regular s b.range)
@@ -213,7 +219,7 @@ module _ (space : List (List (List ℕ))) (pairs : List Pair) (is : IsSpace spac
     pub gauged-tree : (p : Pair) → In p pairs → p.dim ≡ 0 → label gauged p.upper ≡ upto m
     gauged-tree p i d = by (get_or (facets_of space 1 p.upper) 0 0 == p.lower) (branch-step p k)
       where
-        k : In p branches
+        k : In p (branches pairs)
         k = In-filter (λ (p : Pair). p.dim == 0) i (eq-eqb p.dim 0 d)
 
         pw : is_permutation m (label gauged p.upper) ≡ true

@@ -36,10 +36,11 @@ module _ (c m : ℕ) (t : List ℕ) (long : length t ≡ m * c) (appears : follo
 
   met : (i : ℕ) → i < m * c → IsMet i
   met i l =
-      let a = and_parts (nat_lt (length p) (m * c)) ((nat_le 1 x && nat_le x m) && (nat_le x (suc (appeared 1 p)) && (nat_le (suc (length p / c)) (appeared 1 p) && not (taken c (length p) x 0 p)))) may in
-      let b = and_parts (nat_le 1 x && nat_le x m) (nat_le x (suc (appeared 1 p)) && (nat_le (suc (length p / c)) (appeared 1 p) && not (taken c (length p) x 0 p))) a.1 in
+      let row = nat_le (suc (length p / c)) (appeared 1 p) && not (taken c (length p) x 0 p) in
+      let a = and_parts (nat_lt (length p) (m * c)) ((nat_le 1 x && nat_le x m) && (nat_le x (suc (appeared 1 p)) && row)) may in
+      let b = and_parts (nat_le 1 x && nat_le x m) (nat_le x (suc (appeared 1 p)) && row) a.1 in
       let r = and_parts (nat_le 1 x) (nat_le x m) b.0 in
-      let d = and_parts (nat_le x (suc (appeared 1 p))) (nat_le (suc (length p / c)) (appeared 1 p) && not (taken c (length p) x 0 p)) b.1 in
+      let d = and_parts (nat_le x (suc (appeared 1 p))) row b.1 in
       let f = and_parts (nat_le (suc (length p / c)) (appeared 1 p)) (not (taken c (length p) x 0 p)) d.1 in
       record {
         ranged = (leb-true 1 x r.0, leb-true x m r.1);
@@ -54,15 +55,19 @@ module _ (c m : ℕ) (t : List ℕ) (long : length t ≡ m * c) (appears : follo
 
       may : may_follow c m (take i t) (get_or t i 0) ≡ true
       may =
-          let split : take i t ++ (get_or t i 0 ∷ drop (suc i) t) ≡ t = ap (λ (r : List ℕ). take i t ++ r) (sym (drop-cons t i 0 (rw long l))) ∙ take-append-drop i t in
-          let e : (follows c m [] (take i t) && follows c m (take i t) (get_or t i 0 ∷ drop (suc i) t)) ≡ true = sym (follows-append c m [] (take i t) (get_or t i 0 ∷ drop (suc i) t)) ∙ (ap (follows c m []) split ∙ appears) in
-          (and_parts (may_follow c m (take i t) (get_or t i 0)) (follows c m (take i t ++ get_or t i 0 ∷ []) (drop (suc i) t)) ((and_parts (follows c m [] (take i t)) (follows c m (take i t) (get_or t i 0 ∷ drop (suc i) t)) e).1)).0
+          let split : take i t ++ (x ∷ drop (suc i) t) ≡ t =
+          ap (λ (r : List ℕ). take i t ++ r) (sym (drop-cons t i 0 (rw long l))) ∙ take-append-drop i t in
+          let e : (follows c m [] (take i t) && follows c m (take i t) (x ∷ drop (suc i) t)) ≡ true =
+          sym (follows-append c m [] (take i t) (x ∷ drop (suc i) t)) ∙ (ap (follows c m []) split ∙ appears) in
+          let f = and_parts (follows c m [] (take i t)) (follows c m (take i t) (x ∷ drop (suc i) t)) e in
+          (and_parts (may_follow c m (take i t) x) (follows c m (take i t ++ x ∷ []) (drop (suc i) t)) f.1).0
 
   -- no cell stands in its column before
   once : (i j : ℕ) → i < j → j < m * c → i % c ≡ j % c → get_or t i 0 ≡ get_or t j 0 → ⊥
   once i j l k e h =
       false≢true (sym (met j k).fresh
-      ∙ In-taken c j (get_or t j 0) 0 (take j t) i (rw (length-take-le j t (omega (arith, k, long))) l) (ap (λ (n : ℕ). n % c) (none i) ∙ e) (sym h ∙ sym (get_or-take j t i 0 l)))
+      ∙ In-taken c j (get_or t j 0) 0 (take j t) i (rw (length-take-le j t (omega (arith, k, long))) l)
+      (ap (λ (n : ℕ). n % c) (none i) ∙ e) (sym h ∙ sym (get_or-take j t i 0 l)))
     where
       none : (n : ℕ) → 0 + n ≡ n
       none n = omega arith

@@ -1,4 +1,5 @@
-//! Tests of fields of pairs with more pairs, of chosen fields, of the parts of a space, and of collapses.
+//! Tests of fields of pairs with more pairs, of chosen fields, of the parts of a space, of collapses, and of the laws
+//! of covers.
 //!
 //! They show what no clause says: that calls succeed where there is memory, and worked examples.
 #![tactic(auto)]
@@ -9,6 +10,8 @@ mod chosen;
 mod collapses;
 #[cfg(test)]
 mod filling;
+#[cfg(test)]
+mod laws;
 #[cfg(test)]
 mod parts;
 #[cfg(test)]
