@@ -7,14 +7,13 @@ use Rattle.std.proofs.lemmas.List.Elements.{All-set, filter-append}
 use Rattle.number_lists.specs.Members.{In, here, there}
 use Rattle.face_poset.specs.declared.cells.Pair.{Pair}
 use Rattle.face_poset.specs.Poset.{Layers}
-use Rattle.face_poset.specs.Below.{cell_at}
 use Rattle.regular_check.specs.declared.cycles.Step.{Step}
 use Rattle.regular_check.specs.Cycle.{cycle}
 use Rattle.pair_laws.specs.Letters.{inverted}
 use Rattle.sheet_laws.specs.Lifts.{round_from}
 use Rattle.live_laws.specs.Walks.{AreLetters}
 use Rattle.edge_words.specs.Words.{word_at, step_word, word_of, forced_word, words_from}
-use Rattle.edge_words.specs.Limits.{edge_words}
+use Rattle.edge_words.specs.Limits.{edge_word, edge_words}
 use Rattle.edge_words.proofs.LetterWalks.{letters-append, letters-inverted, letters-reduced}
 use Rattle.edge_words.proofs.StepWords.{word_of-append}
 
@@ -81,5 +80,5 @@ module _ (space : Layers) where
 -- the measured words of pairs, one part after another
 pub edge_words-append : (ws : List (List ℤ)) (ps qs : List Pair) → edge_words ws (ps ++ qs) ≡ edge_words ws ps ++ edge_words ws qs
 edge_words-append ws ps qs =
-    ap (map (λ (p : Pair). (cell_at 1 p.lower, word_at ws p.lower))) (filter-append (λ (p : Pair). p.dim == 1) ps qs)
-    ∙ map-append (λ (p : Pair). (cell_at 1 p.lower, word_at ws p.lower)) (filter (λ (p : Pair). p.dim == 1) ps) (filter (λ (p : Pair). p.dim == 1) qs)
+    ap (map (edge_word ws)) (filter-append (λ (p : Pair). p.dim == 1) ps qs)
+    ∙ map-append (edge_word ws) (filter (λ (p : Pair). p.dim == 1) ps) (filter (λ (p : Pair). p.dim == 1) qs)

@@ -18,7 +18,7 @@ use Rattle.sheet_laws.specs.Permutations.{InRange}
 use Rattle.sheet_laws.specs.Lifts.{columns_of}
 use Rattle.edge_words.specs.Words.{word_at, words_from, words, forced_word, cycle_word, critical_disks, relators}
 use Rattle.edge_words.specs.declared.fault.WordFault.{WordFault}
-use Rattle.edge_words.specs.Limits.{edge_words, first_long, IsFault}
+use Rattle.edge_words.specs.Limits.{disk_word, edge_words, first_long, IsFault}
 use Rattle.edge_words.specs.Counting.{IsCounted}
 use Rattle.edge_words.specs.Reducing.{AreWords, AreSteps}
 use Rattle.edge_words.proofs.Letters.{letters-wider}
@@ -39,10 +39,6 @@ pub pairs-split : (pairs : List Pair) (i : ℕ) (p : Pair) → i < length pairs 
 pairs-split pairs i p l e =
     sym (take-append-drop (i + 1) pairs)
     ∙ (ap (λ (xs : List Pair). xs ++ drop (i + 1) pairs) (pairs-more pairs i p l e) ∙ append_assoc (take i pairs) (p ∷ []) (drop (i + 1) pairs))
-
--- a 2-cell with the word of its cycle
-abbrev pub disk-measured : Layers → List (List ℤ) → (c : ℕ) → Cell × List ℤ
-disk-measured space ws c = (cell_at 2 c, cycle_word space ws c)
 
 -- the measured word of a pair, where the word of its lower is the same
 same-measured : (ws vs : List (List ℤ)) (p : Pair) → (p.dim ≡ 1 → word_at ws p.lower ≡ word_at vs p.lower) → edge_words ws (p ∷ []) ≡ edge_words vs (p ∷ [])
@@ -157,10 +153,10 @@ module _ (space : Layers) (ws : List (List ℤ)) (ds : List ℕ) (i d : ℕ) (l 
   disks-more : take (i + 1) ds ≡ take i ds ++ d ∷ []
   disks-more = take_more ds i 0 l ∙ ap (λ (x : ℕ). take i ds ++ x ∷ []) (sym is)
 
-  disks-split : map (disk-measured space ws) ds ≡ map (disk-measured space ws) (take i ds) ++ ((disk-measured space ws d ∷ []) ++ map (disk-measured space ws) (drop (i + 1) ds))
+  disks-split : map (disk_word space ws) ds ≡ map (disk_word space ws) (take i ds) ++ ((disk_word space ws d ∷ []) ++ map (disk_word space ws) (drop (i + 1) ds))
   disks-split =
-      ap (map (disk-measured space ws)) (sym (take-append-drop (i + 1) ds) ∙ (ap (λ (xs : List ℕ). xs ++ drop (i + 1) ds) disks-more ∙ append_assoc (take i ds) (d ∷ []) (drop (i + 1) ds)))
-      ∙ map-append (disk-measured space ws) (take i ds) (d ∷ drop (i + 1) ds)
+      ap (map (disk_word space ws)) (sym (take-append-drop (i + 1) ds) ∙ (ap (λ (xs : List ℕ). xs ++ drop (i + 1) ds) disks-more ∙ append_assoc (take i ds) (d ∷ []) (drop (i + 1) ds)))
+      ∙ map-append (disk_word space ws) (take i ds) (d ∷ drop (i + 1) ds)
 
   -- one 2-cell more, whose word is told
   module _ (word : List ℤ) (told : word ≡ cycle_word space ws d) where
@@ -170,18 +166,18 @@ module _ (space : Layers) (ws : List (List ℤ)) (ds : List ℕ) (i d : ℕ) (l 
         ∙ (ap (λ (xs : List (List ℤ)). xs ++ word ∷ []) h
         ∙ (ap (λ (w : List ℤ). map (cycle_word space ws) (take i ds) ++ w ∷ []) told ∙ sym (ap (map (cycle_word space ws)) disks-more ∙ map-append (cycle_word space ws) (take i ds) (d ∷ []))))
 
-    one-disk : (cell_at 2 d, word) ∷ [] ≡ disk-measured space ws d ∷ []
+    one-disk : (cell_at 2 d, word) ∷ [] ≡ disk_word space ws d ∷ []
     one-disk = ap (λ (w : List ℤ). (cell_at 2 d, w) ∷ []) told
 
-    pub disk-next : (old mid new : ℕ) → IsCounted old (map (disk-measured space ws) (take i ds)) mid → IsCounted mid ((cell_at 2 d, word) ∷ []) new → IsCounted old (map (disk-measured space ws) (take (i + 1) ds)) new
+    pub disk-next : (old mid new : ℕ) → IsCounted old (map (disk_word space ws) (take i ds)) mid → IsCounted mid ((cell_at 2 d, word) ∷ []) new → IsCounted old (map (disk_word space ws) (take (i + 1) ds)) new
     disk-next old mid new a b =
-        subst (λ (ms : List (Cell × List ℤ)). IsCounted old ms new) (sym (ap (map (disk-measured space ws)) disks-more ∙ map-append (disk-measured space ws) (take i ds) (d ∷ [])))
-        (counted-append old mid new (map (disk-measured space ws) (take i ds)) (disk-measured space ws d ∷ []) a (subst (λ (ms : List (Cell × List ℤ)). IsCounted mid ms new) one-disk b))
+        subst (λ (ms : List (Cell × List ℤ)). IsCounted old ms new) (sym (ap (map (disk_word space ws)) disks-more ∙ map-append (disk_word space ws) (take i ds) (d ∷ [])))
+        (counted-append old mid new (map (disk_word space ws) (take i ds)) (disk_word space ws d ∷ []) a (subst (λ (ms : List (Cell × List ℤ)). IsCounted mid ms new) one-disk b))
 
-    pub disk-fault : (old mid : ℕ) (fault : WordFault) → IsCounted old (map (disk-measured space ws) (take i ds)) mid → IsFault (first_long mid ((cell_at 2 d, word) ∷ [])) fault → IsFault (first_long old (map (disk-measured space ws) ds)) fault
+    pub disk-fault : (old mid : ℕ) (fault : WordFault) → IsCounted old (map (disk_word space ws) (take i ds)) mid → IsFault (first_long mid ((cell_at 2 d, word) ∷ [])) fault → IsFault (first_long old (map (disk_word space ws) ds)) fault
     disk-fault old mid fault a b =
         subst (λ (ms : List (Cell × List ℤ)). IsFault (first_long old ms) fault) (sym disks-split)
-        (fault-next old mid (map (disk-measured space ws) (take i ds)) (disk-measured space ws d ∷ []) (map (disk-measured space ws) (drop (i + 1) ds)) fault a (subst (λ (ms : List (Cell × List ℤ)). IsFault (first_long mid ms) fault) one-disk b))
+        (fault-next old mid (map (disk_word space ws) (take i ds)) (disk_word space ws d ∷ []) (map (disk_word space ws) (drop (i + 1) ds)) fault a (subst (λ (ms : List (Cell × List ℤ)). IsFault (first_long mid ms) fault) one-disk b))
 
 -- ---- what the presentation holds
 

@@ -1,6 +1,7 @@
 -- Sums of letters, as the loops carry them. measured are cells with words.
---   letters_in measured            how many letters the words have together
---   IsCounted old measured new     where the words before have `old` letters none of these is too long, and with them there are `new`
+--   letters_in measured         how many letters the words have together
+--   IsCounted old measured new  where the words before have `old` letters none of these is too long, and with them
+--                               there are `new`
 use Rattle.std.specs.Prelude.{◌≡◌, ℕ, ◌+◌, ◌≤◌, ℤ, List, [], ◌∷◌, length, None}
 use Rattle.face_poset.specs.declared.cells.Cell.{Cell}
 use Rattle.edge_words.specs.Limits.{first_long, most_letters_in_all}

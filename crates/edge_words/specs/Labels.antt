@@ -1,13 +1,15 @@
--- Where words lead through a table: each edge's permutation of the sheets. c is the number of columns, m that of sheets, cells are the cells
--- of a table row by row, w is a word in the letters of its columns; sheets and columns are numbered from 1.
---   label_of c m cells w        for each sheet the one where the word leads from it
---   labels_of c m cells ws      so for each of the words
---   leads_home c m cells w      whether the word leads from each sheet to itself
---   satisfies c m cells ws      whether each of the words does
---   Labelled                    how many sheets there are, and the permutation of each edge
---   labelled_by p t             those of a table, by the words of a presentation
---   IsRepresentation p t        the table has a column for each generator, in each column is a permutation, and each relator leads home
---   IsLabel m f                 m numbers from 1 to m
+-- Where words lead through a table: each edge's permutation of the sheets. c is the number of columns, m that of
+-- sheets, cells are the cells of a table row by row, w is a word in the letters of its columns; sheets and columns are
+-- numbered from 1.
+--   label_of c m cells w    for each sheet the one where the word leads from it
+--   labels_of c m cells ws  so for each of the words
+--   leads_home c m cells w  whether the word leads from each sheet to itself
+--   satisfies c m cells ws  whether each of the words does
+--   Labelled                how many sheets there are, and the permutation of each edge
+--   labelled_by p t         those of a table, by the words of a presentation
+--   IsRepresentation p t    the table has a column for each generator, in each column is a permutation, and each
+--                           relator leads home
+--   IsLabel m f             m numbers from 1 to m
 use Rattle.std.specs.Prelude.{◌≡◌, ℕ, ℤ, List, map, length, All, Bool, true, ◌==◌}
 use Rattle.std.specs.List.{list_all}
 use Rattle.number_lists.specs.Words.{upto}

@@ -1,17 +1,22 @@
--- What is proved of these words, for any regular space and any valid field; m is a number of sheets, cells are the cells of a table with a
--- column for each critical edge, row by row.
---   are_words ws                    whether all are words in letters, and reduced
---   AreForced space pairs ws        the words ws, one for each edge: that of an edge paired with a vertex is empty, that of a critical edge is
---                                   its letter, and that of the cycle of each 2-cell paired with an edge reduces to the empty one
---   AreOnlyForced space pairs ws    so they are, and no other words
---   ForcedWordsAreOne               the words of edges are
---   IsOnlyForced space ws p         at the lower of the pair no other reduced word does that, while the other words stay
---   ForcedWordsAreTheOnlyOnes       so it is at each pair of an edge with a 2-cell
---   LabelsAreTheLift                where the words lead through a table is the lift of the table
---   LiftsAreLabellings              the lift is a labelling, on all edges and all 2-cells, exactly where each relator leads each sheet home
---   IsLabellingAt p l               the labels l are a labelling of each regular space with a valid field whose presentation is p
---   Follows space pairs m cells ss x    the walk by the lift along the steps ends where their word leads, and where the reduced word does
---   WalksFollowWords                so it does along all steps of the space, from each sheet
+-- What is proved of these words, for any regular space and any valid field; m is a number of sheets, cells are the
+-- cells of a table with a column for each critical edge, row by row.
+--   are_words ws                      whether all are words in letters, and reduced
+--   AreForced space pairs ws          the words ws, one for each edge: that of an edge paired with a vertex is empty,
+--                                     that of a critical edge is its letter, and that of the cycle of each 2-cell
+--                                     paired with an edge reduces to the empty one
+--   AreOnlyForced space pairs ws      so they are, and no other words
+--   ForcedWordsAreOne                 the words of edges are
+--   IsOnlyForced space ws p           at the lower of the pair no other reduced word does that, while the other words
+--                                     stay
+--   ForcedWordsAreTheOnlyOnes         so it is at each pair of an edge with a 2-cell
+--   LabelsAreTheLift                  where the words lead through a table is the lift of the table
+--   LiftsAreLabellings                the lift is a labelling, on all edges and all 2-cells, exactly where each relator
+--                                     leads each sheet home
+--   IsLabellingAt p l                 the labels l are a labelling of each regular space with a valid field whose
+--                                     presentation is p
+--   Follows space pairs m cells ss x  the walk by the lift along the steps ends where their word leads, and where the
+--                                     reduced word does
+--   WalksFollowWords                  so it does along all steps of the space, from each sheet
 use Rattle.std.specs.Prelude.{◌≡◌, ◌↔◌, ℕ, ◌-◌, ◌≤◌, ℤ, pos, List, [], ◌∷◌, length, set, Bool, true, ◌&&◌}
 use Rattle.std.specs.List.{list_all}
 use Rattle.number_lists.specs.Members.{In}

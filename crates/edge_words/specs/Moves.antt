@@ -1,6 +1,6 @@
 -- The inverses of the columns of a table; as in Labels.
---   inverse_column c m cells g    for each sheet its row in a column
---   inverse_columns c m cells     those of all columns
+--   inverse_column c m cells g  for each sheet its row in a column
+--   inverse_columns c m cells   those of all columns
 use Rattle.std.specs.Prelude.{ℕ, List, map}
 use Rattle.number_lists.specs.Words.{upto}
 use Rattle.sheet_laws.specs.Permutations.{back, values}

@@ -1,6 +1,6 @@
 -- Words that stand among letters. letters are those of all words, total is how many there are.
---   word_in letters place    the word at a place
---   IsPlace total place      the place ends within the letters
+--   word_in letters place  the word at a place
+--   IsPlace total place    the place ends within the letters
 use Rattle.std.specs.Prelude.{ℕ, ◌+◌, ◌≤◌, ℤ, List, take, drop}
 use Rattle.edge_words.specs.declared.word_list.Place.{Place}
 

@@ -1,8 +1,8 @@
 -- What the loops over letters stand on. ws are words, w is a word, ss are steps.
---   IsWord w           its letters are generators up to 60,000 or their inverses, and it is reduced
---   AreWords ws        so are the letters of these words
---   AreSteps ws ss     there is a word for the edge of each step
---   place_in e ss      the first of the steps along an edge, counted from 0
+--   IsWord w        its letters are generators up to 60,000 or their inverses, and it is reduced
+--   AreWords ws     so are the letters of these words
+--   AreSteps ws ss  there is a word for the edge of each step
+--   place_in e ss   the first of the steps along an edge, counted from 0
 use Rattle.std.specs.Prelude.{◌≡◌, ℕ, suc, ℤ, List, [], ◌∷◌, length, All, true, ◌==◌, if◌then◌else◌}
 use Rattle.regular_check.specs.declared.cycles.Step.{Step}
 use Rattle.pair_laws.specs.Letters.{is_reduced}

@@ -1,18 +1,23 @@
--- The words of edges along a field of pairs, and the presentation of the fundamental group that they give. (Edge-path groups with a
--- discrete vector field in place of a spanning tree; textbook, R. Forman.) space is the lists of a space, pairs those of a field; ws has the
--- word of edge e at the place e, ss are steps; cells and generators are numbered from 1.
+-- The words of edges along a field of pairs, and the presentation of the fundamental group that they give. (Edge-path
+-- groups with a discrete vector field in place of a spanning tree; textbook, R. Forman.) space is the lists of a space,
+-- pairs those of a field; ws has the word of edge e at the place e, ss are steps; cells and generators are numbered
+-- from 1.
 --   word_at ws e                the word of an edge
 --   step_word ws s              the word of a step: that of its edge, or backward the inverse
 --   word_of ws ss               the words of steps, one after another
---   forced_word ws e ss         the reduced word of the edge e with which the word of the steps, else by ws, reduces to the empty one
---   own_word critical e         the letter of the edge, if it is one of the critical edges, which are the generators; else no letter
+--   forced_word ws e ss         the reduced word of the edge e with which the word of the steps, else by ws, reduces to
+--                               the empty one
+--   own_word critical e         the letter of the edge, if it is one of the critical edges, which are the generators;
+--                               else no letter
 --   first_word space pairs e    the word of an edge that is paired with no 2-cell
---   words_from space ws pairs   the words ws, with that of the lower of each pair of an edge with a 2-cell put anew, in order
+--   words_from space ws pairs   the words ws, with that of the lower of each pair of an edge with a 2-cell put anew, in
+--                               order
 --   words space pairs           the words of all edges
 --   critical_disks space pairs  the 2-cells that are in no pair
 --   cycle_word space ws c       the reduced word of the cycle of a 2-cell
 --   relators space pairs        those of the critical 2-cells, by number
---   Presented                   a presentation: the edges that are the generators, the relators, and the words of all edges
+--   Presented                   a presentation: the edges that are the generators, the relators, and the words of all
+--                               edges
 --   presentation_of space pairs the critical edges, the relators and the words
 --   relations_of p              how many generators there are, and the relators
 use Rattle.std.specs.Prelude.{ℕ, ◌-◌, ℤ, pos, List, [], ◌∷◌, ◌++◌, map, length, set, slice_index_or, ◌==◌, if◌then◌else◌}

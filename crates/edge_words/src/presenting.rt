@@ -1,10 +1,10 @@
-ghost use Rattle.std.specs.Prelude.{◌≡◌, ℕ, ℤ, ◌≤◌, ◌<◌, ◌++◌, ◌∷◌, [], length, List, map, slice_index_or, All, IfOk, OnOk, MatchResult, None, true};
+ghost use Rattle.std.specs.Prelude.{◌≡◌, ℕ, ℤ, ◌≤◌, ◌++◌, ◌∷◌, [], length, List, map, None, true};
+ghost use Rattle.std.specs.Prelude.{IfOk, OnOk, MatchResult};
 ghost use Rattle.std.specs.List.Sorted.{IsStrictlyIncreasing};
 ghost use Rattle.number_lists.specs.Words.{upto};
 ghost use Rattle.face_poset.specs.Poset.{count};
 ghost use Rattle.vector_field.specs.Pairs.{is_incident, IsFieldOf};
-ghost use Rattle.live_laws.specs.Walks.{AreLetters};
-ghost use Rattle.edge_words.specs.Words.{own_word, first_word, words, words_from, relators, word_at};
+ghost use Rattle.edge_words.specs.Words.{own_word, first_word, words, words_from, relators};
 ghost use Rattle.edge_words.specs.Words.{presentation_of};
 ghost use Rattle.edge_words.specs.Limits.{disk_words, edge_words, first_long, too_long, IsFault};
 ghost use Rattle.edge_words.specs.Counting.{IsCounted};
@@ -40,6 +40,7 @@ pub fn present(
 ) -> Result<Presentation, WordFault>
     requires { IsFieldOf regular.now field.now }
     ensures presentation { IfOk result (λ p. p ≡ presentation_of regular.now field.now.pairs) }
+    ensures edges { IfOk result (λ p. length p.words ≡ count regular.now 1) }
     ensures limits { MatchResult result
         (λ _. too_long regular.now field.now.pairs ≡ None)
         (IsFault (too_long regular.now field.now.pairs)) }

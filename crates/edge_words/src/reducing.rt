@@ -1,5 +1,6 @@
 // Reduced words, letter by letter.
-ghost use Rattle.std.specs.Prelude.{◌≡◌, ◌<◌, ◌++◌, ◌∷◌, [], length, map, true, OnOk, if◌then◌else◌, All, slice_index};
+ghost use Rattle.std.specs.Prelude.{◌≡◌, ◌<◌, ◌++◌, ◌∷◌, [], length, map, true, if◌then◌else◌};
+ghost use Rattle.std.specs.Prelude.{OnOk};
 ghost use Rattle.number_lists.specs.Words.{holds};
 ghost use Rattle.regular_check.specs.declared.cycles.Step.{Step};
 ghost use Rattle.pair_laws.specs.Letters.{inverted, is_reduced, last_undone, reduced};

@@ -8,11 +8,12 @@ use Rattle.regular_check.specs.Cycle.{cycle}
 use Rattle.vector_field.specs.Pairs.{Field, critical_of, IsFieldOf}
 use Rattle.pair_laws.specs.Letters.{reduced}
 use Rattle.edge_words.specs.Words.{word_of, cycle_word, critical_disks}
+use Rattle.edge_words.specs.Limits.{disk_word}
 use Rattle.edge_words.specs.Counting.{IsCounted}
 use Rattle.edge_words.specs.Reducing.{AreWords, AreSteps}
 use Rattle.edge_words.proofs.Counted.{counted-none}
 use Rattle.edge_words.proofs.WordLetters.{length-from}
-use Rattle.edge_words.proofs.Stages.{words-are, disks-are, disk-range, cycle-steps, disk-measured, relators-next, disk-next, disk-fault}
+use Rattle.edge_words.proofs.Stages.{words-are, disks-are, disk-range, cycle-steps, relators-next, disk-next, disk-fault}
 use Rattle.edge_words.proofs.presenting.list_relators.Goals as goal
 
 pub loop-disk-init : goal.loop-disk-init
@@ -78,5 +79,5 @@ returns-clause-relators c =
 
 pub returns-clause-count : goal.returns-clause-count
 returns-clause-count c =
-    subst (λ (ds : List ℕ). IsCounted c.args.sum.now (map (disk-measured c.args.regular.now c.args.made.now) ds) c.loop-disk.sum)
+    subst (λ (ds : List ℕ). IsCounted c.args.sum.now (map (disk_word c.args.regular.now c.args.made.now) ds) c.loop-disk.sum)
     (passed c.args.regular.now c.args.field.now c.critical-disk-items.result.now c.loop-disk.disk-index c.requires.field c.critical-disk-items.ensures.cells c.loop-disk-test.false) c.loop-disk.invariant.1

@@ -12,7 +12,7 @@ use Rattle.edge_words.specs.Limits.{edge_words, disk_words, first_long, too_long
 use Rattle.edge_words.specs.Counting.{IsCounted}
 use Rattle.edge_words.proofs.Counted.{counted-append, fault-first, fault-second}
 use Rattle.edge_words.proofs.Stages.{columns-few, relators-few}
-use Rattle.edge_words.proofs.WordLetters.{words-letters, relators-letters}
+use Rattle.edge_words.proofs.WordLetters.{length-from, words-letters, relators-letters}
 use Rattle.edge_words.proofs.presenting.present.Goals as goal
 
 -- what is handed on, said of the space
@@ -96,6 +96,13 @@ pub returns-clause-presentation : goal.returns-clause-presentation
 returns-clause-presentation c =
     whole c.args.regular.now c.args.field.now c.requires c.critical.result.now c.in_ok-generators.generators.items c.critical.ensures.cells c.in_ok-generators.ensures.items c.new.result c.in_ok-relators.relators c.in_ok-words.words c.new.ensures
     c.in_ok-relators.ensures.relators c.in_ok-words.ensures.words
+
+pub returns-clause-edges : goal.returns-clause-edges
+returns-clause-edges c =
+    ap (λ (p : Presented). length p.words)
+    (whole c.args.regular.now c.args.field.now c.requires c.critical.result.now c.in_ok-generators.generators.items c.critical.ensures.cells c.in_ok-generators.ensures.items c.new.result c.in_ok-relators.relators c.in_ok-words.words c.new.ensures
+    c.in_ok-relators.ensures.relators c.in_ok-words.ensures.words)
+    ∙ length-from c.args.regular.now c.args.field.now.pairs c.args.field.now.pairs
 
 pub returns-clause-limits : goal.returns-clause-limits
 returns-clause-limits c =
