@@ -1,0 +1,4 @@
+mod Inside
+mod Labelled
+mod Joining
+mod Examples
