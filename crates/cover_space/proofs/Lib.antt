@@ -1,4 +1,6 @@
 mod Inside
 mod Labelled
 mod Joining
+mod Chained
+mod Rooted
 mod Examples
