@@ -3,4 +3,6 @@ mod Labelled
 mod Joining
 mod Chained
 mod Rooted
+mod Solids
+mod Sheets
 mod Examples

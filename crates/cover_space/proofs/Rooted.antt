@@ -50,7 +50,7 @@ module _ (X : List (List (List ℕ))) (hs : IsSpace X) (regular : IsRegular X) (
   g = labelled.against m (count X 1) u h.long h.permutations
 
   -- the edge is flat as far as labels go
-  flat-label : (over : ℕ → ℕ) (e : ℕ) → InRange (count X 1) e → Flat A B f over e → at (label u e) (over (A e)) ≡ over (B e)
+  pub flat-label : (over : ℕ → ℕ) (e : ℕ) → InRange (count X 1) e → Flat A B f over e → at (label u e) (over (A e)) ≡ over (B e)
   flat-label over e r k = sym (forth-is m (count X 1) u h.long h.permutations e (over (A e)) r) ∙ k
 
   -- the vertices of an edge
@@ -103,7 +103,7 @@ module _ (X : List (List (List ℕ))) (hs : IsSpace X) (regular : IsRegular X) (
     cycle-within : (c : ℕ) → InRange (count X 2) c → AreWithin (count X 1) (cycle X c)
     cycle-within c r s i = facet_in X hs 1 c s.edge r (cycle-inside c r s i)
 
-    cycle-closes : (c x : ℕ) → InRange (count X 2) c → in_range m x ≡ true → joins.walk f g (cycle X c) x ≡ x
+    pub cycle-closes : (c x : ℕ) → InRange (count X 2) c → in_range m x ≡ true → joins.walk f g (cycle X c) x ≡ x
     cycle-closes c x r q = walk-is m (count X 1) u h.long h.permutations (cycle X c) (cycle-within c r) x ∙ closes-at m u (cycle X c) (h.closes_round c r) x (range-true m x q)
 
     -- the edges below are those of the steps
