@@ -40,7 +40,7 @@ module _ (X : List (List (List ℕ))) (hs : IsSpace X) (regular : IsRegular X) (
   permutes e r = label-permutes m (count X 1) u h.long h.permutations e r
 
   module _ (d c : ℕ) (r : InRange (count X d) c) where
-    edge-range : (e : ℕ) → IsBelow X d c 1 e → InRange (count X 1) e
+    pub edge-range : (e : ℕ) → IsBelow X d c 1 e → InRange (count X 1) e
     edge-range e i = below-range X hs d c r i
 
     edge-there : (e : ℕ) → holds (below X d c 1) e ≡ true → IsBelow X d c 1 e
