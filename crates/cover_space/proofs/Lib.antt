@@ -5,4 +5,5 @@ mod Chained
 mod Rooted
 mod Solids
 mod Sheets
+mod Laid
 mod Examples
