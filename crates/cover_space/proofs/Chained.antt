@@ -1,8 +1,7 @@
 -- Steps that go once round, as a path and one last step; and what trees and chains join.
 use Rattle.std.proofs.Common.{◌≡◌, inl, inr, ℕ, List, [], ◌∷◌, ◌++◌, map, drop, take, Bool, true, false, cond, get_or, refl, ap, sym, ◌∙◌, subst}
 use Rattle.number_lists.specs.Members.{In, here, there}
-use Rattle.number_lists.specs.Words.{holds}
-use Rattle.number_lists.proofs.CallerLemmas.{In-cases, holds-In, In-holds, map_agree}
+use Rattle.number_lists.proofs.CallerLemmas.{In-cases, holds-In, map_agree}
 use Rattle.face_poset.specs.Poset.{facets_of}
 use Rattle.regular_check.specs.declared.cycles.Step.{Step}
 use Rattle.regular_check.specs.Cycle.{start_of, end_of}

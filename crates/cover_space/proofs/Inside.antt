@@ -1,11 +1,11 @@
 -- The cells of a closed cell: their ranges, those of their own closed cells, and the least vertex.
-use Rattle.std.proofs.Common.{◌≡◌, inl, inr, ℕ, zero, suc, ◌+◌, ◌-◌, ◌<◌, ◌≤◌, List, [], ◌∷◌, ◌++◌, map, filter, Bool, ◌⊎◌, eqb, length, get_or, refl, ap, sym, ◌∙◌, subst, arith, Contains}
+use Rattle.std.proofs.Common.{◌≡◌, inl, inr, ℕ, zero, suc, ◌+◌, ◌-◌, ◌<◌, ◌≤◌, List, [], ◌∷◌, ◌++◌, map, filter, Bool, ◌⊎◌, eqb, length, get_or, refl, ap, sym, subst, arith, Contains}
 use Rattle.std.specs.List.{list_any}
 use Rattle.std.proofs.lemmas.Bool.{eqb-true, eq-eqb}
 use Rattle.std.proofs.lemmas.List.{get_or_past}
-use Rattle.number_lists.specs.Members.{In, here, there}
+use Rattle.number_lists.specs.Members.{In, here}
 use Rattle.number_lists.specs.Words.{upto, holds}
-use Rattle.number_lists.proofs.CallerLemmas.{In-cases, In-Contains, Contains-In, In-filter, filter-In, In-inside, any-In, any-some, holds-In, In-holds, In-at, at-In, In-upto, upto-In, In-map, map-In}
+use Rattle.number_lists.proofs.CallerLemmas.{In-cases, In-Contains, Contains-In, In-filter, filter-In, In-inside, any-In, In-holds, In-at, at-In, In-upto, upto-In, In-map, map-In}
 use Rattle.face_poset.specs.declared.cells.Cell.{Cell}
 use Rattle.face_poset.specs.Poset.{IsCell, IsSpace, count, facets_of}
 use Rattle.face_poset.specs.Below.{facets_of_all, cell_at, closure, closed_cell, IsBelow, itself, facet}
@@ -68,6 +68,7 @@ module _ (X : List (List (List ℕ))) (hs : IsSpace X) where
       order zero b = inl (omega arith)
       order (suc a) zero = inr (omega arith)
       order (suc a) (suc b) = elim (order a b) [ inl h ↦ inl (omega (arith, h)) | inr h ↦ inr (omega (arith, h)) ]
+
       by : (suc e ≤ d) ⊎ (d < suc e) → (suc e ≤ d → (g : ℕ) × In g (facets_of X (suc d) c) × IsBelow X d g (suc e) b) → (g : ℕ) × In g (facets_of X (suc d) c) × IsBelow X d g e f
       by (inl k) again = let r = again k in (r.0, r.1, facet e b f r.2 i)
       by (inr k) again =

@@ -1,10 +1,9 @@
 -- Paths of edges inside a closed cell, and the choices of sheets that they lead to.
-use Rattle.std.proofs.Common.{◌≡◌, inl, inr, ◌⊎◌, ℕ, zero, suc, List, [], ◌∷◌, Bool, true, false, cond, get_or, refl, ap, sym, ◌∙◌, subst, arith}
-use Rattle.number_lists.specs.Members.{In, here, there}
+use Rattle.std.proofs.Common.{◌≡◌, ℕ, List, Bool, true, false, refl, ap, sym, ◌∙◌, subst}
 use Rattle.number_lists.specs.Words.{holds}
-use Rattle.number_lists.proofs.CallerLemmas.{holds-In, In-holds, In-Contains, Contains-In}
-use Rattle.face_poset.specs.Poset.{IsSpace, count, facets_of}
-use Rattle.face_poset.specs.Below.{cell_at, closed_cell, IsBelow, itself, facet}
+use Rattle.number_lists.proofs.CallerLemmas.{holds-In, In-Contains}
+use Rattle.face_poset.specs.Poset.{IsSpace, count}
+use Rattle.face_poset.specs.Below.{IsBelow, facet}
 use Rattle.regular_check.specs.declared.cycles.Step.{Step}
 use Rattle.regular_check.specs.Rules.{IsRegular}
 use Rattle.regular_check.specs.Cycle.{start_of, end_of}
@@ -17,7 +16,7 @@ use Rattle.sheet_laws.specs.Labellings.{label, step}
 use Rattle.sheet_laws.proofs.CallerLemmas.{Ends, ends-of, turn_of, back_turn, back-of-at, at-of-back, label-permutes}
 use Rattle.cover_space.specs.Total.{least_vertex, below, Along, here as at_least, on}
 use Rattle.cover_space.specs.Laws.{IsChoice}
-use Rattle.cover_space.proofs.Inside.{In-closed, closed-In, In-below, below-In, below-range, least-below}
+use Rattle.cover_space.proofs.Inside.{In-closed, closed-In, below-In, below-range, least-below}
 use Rattle.cover_space.proofs.Labelled.{IsLabelled}
 
 -- sheets over all vertices, x over v, along which each of the edges leads
@@ -53,6 +52,7 @@ module _ (X : List (List (List ℕ))) (hs : IsSpace X) (regular : IsRegular X) (
       where
         i : IsBelow X d c 1 e
         i = edge-there e ok
+
         over : (y : ℕ) → InRange m y → HasFlat X m u (IsBelow X d c 1) (last_end X e) y
         over y p =
             let f = label u e in
@@ -63,6 +63,7 @@ module _ (X : List (List (List ℕ))) (hs : IsSpace X) (regular : IsRegular X) (
       where
         i : IsBelow X d c 1 e
         i = edge-there e ok
+
         over : (y : ℕ) → InRange m y → HasFlat X m u (IsBelow X d c 1) (first_end X e) y
         over y p =
             let f = label u e in
@@ -99,6 +100,7 @@ module _ (X : List (List (List ℕ))) (hs : IsSpace X) (regular : IsRegular X) (
         where
           ran : InRange (count X 1) t.edge
           ran = edge-range t.edge (closed-In X hs d c r i)
+
           led : (b : Bool) → t.forward ≡ b → step u t (over (start_of X t)) ≡ over (end_of X t)
           led true e = rw e (is.edges t.edge i)
           led false e = rw e (ap (perms.back (label u t.edge)) (sym (is.edges t.edge i)) ∙ back-of-at m (label u t.edge) (permutes t.edge ran) (over (first_end X t.edge)) (is.sheets (first_end X t.edge)))
@@ -113,8 +115,10 @@ module _ (X : List (List (List ℕ))) (hs : IsSpace X) (regular : IsRegular X) (
         where
           j : IsBelow X d c 1 t.edge
           j = closed-In X hs d c r i
+
           es : Ends X t.edge
           es = ends-of X t.edge hs regular (edge-range t.edge j)
+
           by : (b : Bool) → t.forward ≡ b → IsBelow X d c 0 (end_of X t)
           by true e = rw e (facet 0 t.edge (last_end X t.edge) j (In-Contains es.there_second))
           by false e = rw e (facet 0 t.edge (first_end X t.edge) j (In-Contains es.there_first))

@@ -1,9 +1,9 @@
 -- Labellings as functions of all numbers, whose walks are those of the labels along edges that are there.
-use Rattle.std.proofs.Common.{◌≡◌, ℕ, ◌≤◌, List, [], ◌∷◌, length, refl, ap, sym, ◌∙◌, Bool, true, false, cond, ◌&&◌, eqb}
+use Rattle.std.proofs.Common.{◌≡◌, ℕ, ◌≤◌, List, [], ◌∷◌, length, refl, ap, ◌∙◌, Bool, true, false, cond, ◌&&◌, eqb}
 use Rattle.std.specs.Prelude.{nat_le}
 use Rattle.std.specs.List.{list_all}
 use Rattle.std.proofs.lemmas.Bool.{eqb-true, and_parts, and_from, leb-true, le-leb}
-use Rattle.number_lists.specs.Members.{In, here, there}
+use Rattle.number_lists.specs.Members.{here, there}
 use Rattle.number_lists.specs.Words.{upto}
 use Rattle.number_lists.proofs.CallerLemmas.{and-left, and-right, all-In, In-upto}
 use Rattle.face_poset.specs.Poset.{count}

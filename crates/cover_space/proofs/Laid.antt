@@ -1,7 +1,6 @@
 -- The cells of a total space: where they stand, how many they are, and that they are cells of a space.
-use Rattle.std.proofs.Common.{◌≡◌, ℕ, zero, suc, ◌+◌, ◌-◌, ◌*◌, ◌<◌, ◌≤◌, List, [], ◌∷◌, ◌++◌, map, length, get_or, refl, ap, sym, ◌∙◌, subst, arith, All}
+use Rattle.std.proofs.Common.{◌≡◌, ℕ, zero, suc, ◌+◌, ◌-◌, ◌*◌, ◌<◌, ◌≤◌, List, [], ◌++◌, map, length, get_or, refl, ap, sym, ◌∙◌, subst, arith}
 use Rattle.std.specs.List.{flat_map, range_with_len}
-use Rattle.std.specs.List.Sorted.{IsStrictlyIncreasing}
 use Rattle.std.proofs.Math.Nat.{mul-suc, mul-add, mul_comm, mul-le-mul_left, zero-mul}
 use Rattle.std.proofs.lemmas.List.{length-append, get_or-append-add, get_or_append_left, get_or-map, length-map, get_or_default}
 use Rattle.std.proofs.lemmas.List.FromFn.{length-map-range_with_len, get_or-map-range_with_len}
@@ -9,7 +8,7 @@ use Rattle.number_lists.specs.Members.{In}
 use Rattle.number_lists.specs.Words.{upto}
 use Rattle.number_lists.proofs.CallerLemmas.{at-In, In-Contains}
 use Rattle.face_poset.specs.Poset.{IsCell, IsSpace, layer, count, cell_count, facets_of}
-use Rattle.face_poset.specs.Below.{IsBelow, itself, facet}
+use Rattle.face_poset.specs.Below.{itself, facet}
 use Rattle.regular_check.specs.Rules.{IsRegular}
 use Rattle.sheet_laws.specs.Permutations.{InRange}
 use Rattle.sheet_laws.proofs.CallerLemmas.{number-range, number-split, IsNumber}

@@ -6,4 +6,5 @@ mod Rooted
 mod Solids
 mod Sheets
 mod Laid
+mod Copies
 mod Examples

@@ -1,34 +1,30 @@
 -- Each closed cell has a vertex to which its vertices are joined, and over which each sheet has its choice: by dimension.
-use Rattle.std.proofs.Common.{◌≡◌, ◌≢◌, inl, inr, ◌⊎◌, ℕ, zero, suc, ◌+◌, ◌<◌, ◌≤◌, List, [], ◌∷◌, ◌++◌, map, drop, take, filter, length, eqb, Bool, true, false, not, ◌||◌, ◌&&◌, cond, get_or, refl, ap, sym, ◌∙◌, subst, arith, Contains, AllPairs}
-use Rattle.std.proofs.lemmas.Bool.{eqb-true, eq-eqb, ne_eqb, false≢true}
-use Rattle.number_lists.specs.Members.{In, here, there}
-use Rattle.number_lists.specs.Words.{upto, holds}
-use Rattle.std.specs.List.{list_any}
-use Rattle.number_lists.proofs.CallerLemmas.{In-cases, In-Contains, Contains-In, In-filter, filter-In, In-inside, any-In, any-some, holds-In, In-holds, In-upto, In-at, In-map, map-In, map_agree, append-In, In-left, In-right}
-use Rattle.face_poset.specs.declared.cells.Cell.{Cell}
+use Rattle.std.proofs.Common.{◌≡◌, ◌≢◌, inl, inr, ◌⊎◌, ℕ, zero, suc, List, [], ◌∷◌, ◌++◌, map, drop, take, eqb, Bool, true, false, cond, get_or, refl, ap, sym, ◌∙◌, subst, arith, AllPairs}
+use Rattle.std.proofs.lemmas.Bool.{eq-eqb, ne_eqb}
+use Rattle.number_lists.specs.Members.{In, here}
+use Rattle.number_lists.specs.Words.{holds}
+use Rattle.number_lists.proofs.CallerLemmas.{In-cases, In-Contains, holds-In, In-holds, In-at, In-map, map-In, map_agree, append-In, In-left, In-right}
 use Rattle.face_poset.specs.Poset.{IsSpace, count, facets_of}
-use Rattle.face_poset.specs.Below.{facets_of_all, cell_at, closed_cell, IsBelow, itself, facet}
+use Rattle.face_poset.specs.Below.{IsBelow, itself, facet}
 use Rattle.regular_check.specs.declared.cycles.Step.{Step}
 use Rattle.regular_check.specs.Rules.{IsRegular}
 use Rattle.regular_check.specs.Cycle.{start_of, end_of, cycle, CyclesGoRound, GoesRound}
 use Rattle.pair_laws.specs.Joins.{Joins, stay, forth, back, Chain, none, next, start, finish, Flat}
 use Rattle.pair_laws.specs.Joins as joins
-use Rattle.pair_laws.specs.Tree.{Link, Grown, distinct, HasTree}
+use Rattle.pair_laws.specs.Tree.{distinct}
 use Rattle.pair_laws.specs.Sections.{sheets, IsSection}
 use Rattle.pair_laws.specs.Round.{HasPathTree}
 use Rattle.pair_laws.proofs.CallerLemmas.{joins-trans, chain-append, grown_flat, flat_forced, cycle_tree, ends_taken}
-use Rattle.sphere_collapses.specs.Collapses.{same, boundary_less}
-use Rattle.sphere_collapses.specs.Laws.{IsFaceOf, SpheresHaveTrees, BoundariesCollapse, IsClosedList, HasSection, CollapsedWalksClose}
-use Rattle.sphere_collapses.specs.Spheres.{first_end, last_end, edges_below, vertices_below}
+use Rattle.sphere_collapses.specs.Spheres.{first_end, last_end}
 use Rattle.sheet_laws.specs.Permutations.{InRange, at}
 use Rattle.sheet_laws.specs.Labellings.{label}
-use Rattle.sheet_laws.proofs.CallerLemmas.{Ends, ends-of, AreWithin, closes-at, distinct-cons}
-use Rattle.cover_space.specs.Total.{least_vertex, below}
-use Rattle.cover_space.proofs.Inside.{dim_low, facet_in, first_facet, below-range, below-dim, below-then, below-top, below-facet, In-closed, closed-In, In-below, below-In, least-below}
+use Rattle.sheet_laws.proofs.CallerLemmas.{ends-of, AreWithin, closes-at, distinct-cons}
+use Rattle.cover_space.specs.Total.{below}
+use Rattle.cover_space.proofs.Inside.{facet_in, first_facet, below-range, below-dim, below-top, below-facet, In-below}
 use Rattle.cover_space.proofs.Labelled as labelled
 use Rattle.cover_space.proofs.Labelled.{IsLabelled, in_range, range-true, range-from, are_inverse, walk-is, forth-is}
-use Rattle.cover_space.proofs.Chained.{IsOpened, round-opened, chain-joins, tree-joins, start-is, finish-is}
-use Rattle.cover_space.proofs.Joining.{IsFlatAt, HasFlat, HasRoot}
+use Rattle.cover_space.proofs.Chained.{IsOpened, round-opened, chain-joins, tree-joins, start-is}
+use Rattle.cover_space.proofs.Joining.{HasFlat, HasRoot}
 
 distinct-pairs : (xs : List ℕ) → AllPairs (λ a b. a ≢ b) xs → distinct xs ≡ true
 distinct-pairs [] h = refl
@@ -82,14 +78,18 @@ module _ (X : List (List (List ℕ))) (hs : IsSpace X) (regular : IsRegular X) (
     where
       over : ℕ → ℕ → ℕ
       over x v = cond (eqb v (first_end X c)) x (at (label u c) x)
+
       over-first : (x : ℕ) → over x (first_end X c) ≡ x
       over-first x = ap (λ (b : Bool). cond b x (at (label u c) x)) (eq-eqb (first_end X c) (first_end X c) refl)
+
       over-last : (x : ℕ) → over x (last_end X c) ≡ at (label u c) x
       over-last x = ap (λ (b : Bool). cond b x (at (label u c) x)) (ne_eqb (last_end X c) (first_end X c) (λ e. (ends-of X c hs regular r).apart (sym e)))
+
       into : (x : ℕ) → InRange m x → InRange m (at (label u c) x)
       into x q =
           let inv = are_inverse m (count X 1) u h.long h.permutations in
           subst (InRange m) (forth-is m (count X 1) u h.long h.permutations c x r) (range-true m (f c x) (inv.f_is c x (range-from m x q)))
+
       over-range : (x : ℕ) → InRange m x → (w : ℕ) (b : Bool) → eqb w (first_end X c) ≡ b → InRange m (cond b x (at (label u c) x))
       over-range x q w true e = q
       over-range x q w false e = into x q
@@ -159,6 +159,7 @@ module _ (X : List (List (List ℕ))) (hs : IsSpace X) (regular : IsRegular X) (
         where
           k : holds (below X 2 c 1) o.last.edge ≡ true
           k = inside-ok o.last (In-right o.first here)
+
           by : (b : Bool) → o.last.forward ≡ b → Joins (first_end X) (last_end X) (holds (below X 2 c 1)) (start (first_end X) (last_end X) t) (start (first_end X) (last_end X) o.last)
               → Joins (first_end X) (last_end X) (holds (below X 2 c 1)) (start (first_end X) (last_end X) t) (first_end X o.last.edge) × Joins (first_end X) (last_end X) (holds (below X 2 c 1)) (start (first_end X) (last_end X) t) (last_end X o.last.edge)
           by true e j = let a : Joins (first_end X) (last_end X) (holds (below X 2 c 1)) (start (first_end X) (last_end X) t) (first_end X o.last.edge) = rw e at j in (a, joins-trans (first_end X) (last_end X) a (forth o.last.edge k stay))

@@ -1,11 +1,11 @@
 -- The sheet of a cell over a vertex: the computed one, the one to which edge paths lead, and the one of each choice are the same.
-use Rattle.std.proofs.Common.{◌≡◌, inl, inr, ◌⊎◌, ◌↔◌, ℕ, zero, suc, ◌+◌, ◌-◌, ◌*◌, ◌<◌, ◌≤◌, List, [], ◌∷◌, map, filter, length, eqb, Bool, true, false, ◌&&◌, ◌||◌, get_or, refl, ap, sym, ◌∙◌, subst, arith, Contains}
-use Rattle.std.specs.List.{list_any, flat_map}
+use Rattle.std.proofs.Common.{◌≡◌, inl, inr, ◌⊎◌, ℕ, suc, ◌≤◌, List, [], ◌∷◌, map, filter, eqb, Bool, true, false, ◌&&◌, ◌||◌, get_or, refl, ap, sym, ◌∙◌, subst, Contains}
+use Rattle.std.specs.List.{list_any}
 use Rattle.std.proofs.lemmas.Bool.{eqb-true, eq-eqb, and_parts, and_from, or_left, or_right, or_cases}
-use Rattle.number_lists.specs.Members.{In, here, there}
+use Rattle.number_lists.specs.Members.{In, here}
 use Rattle.number_lists.specs.Words.{upto, holds}
 use Rattle.number_lists.specs.Reach.{reaches, Reaches, at_start, on as reach_on}
-use Rattle.number_lists.proofs.CallerLemmas.{In-Contains, Contains-In, In-filter, filter-In, In-inside, any-In, any-some, holds-In, In-holds, In-at, at-In, In-upto, upto-In, In-map, map-In, In-flat_map, reaches_is}
+use Rattle.number_lists.proofs.CallerLemmas.{In-filter, filter-In, In-inside, any-In, any-some, In-holds, In-upto, upto-In, In-map, In-flat_map, reaches_is}
 use Rattle.face_poset.specs.Poset.{IsSpace, count, facets_of}
 use Rattle.face_poset.specs.Below.{cell_at, closed_cell, IsBelow, itself, facet}
 use Rattle.regular_check.specs.declared.cycles.Step.{Step}
@@ -15,12 +15,12 @@ use Rattle.sphere_collapses.specs.Spheres.{first_end, last_end}
 use Rattle.sheet_laws.specs.Permutations as perms
 use Rattle.sheet_laws.specs.Permutations.{InRange, at}
 use Rattle.sheet_laws.specs.Labellings.{label, step}
-use Rattle.sheet_laws.proofs.CallerLemmas.{Ends, ends-of, same_vertex, same_sheet, back_turn, turn_of, at-of-back, back-of-at, label-permutes}
+use Rattle.sheet_laws.proofs.CallerLemmas.{ends-of, same_vertex, same_sheet, back_turn, turn_of, at-of-back, back-of-at, label-permutes}
 use Rattle.cover_space.specs.Total.{least_vertex, sheeted, below, Along, here as at_least, on, leads, places, sheet}
 use Rattle.cover_space.specs.Laws.{IsChoice, HasOneChoice, IsSheet}
-use Rattle.cover_space.proofs.Inside.{below-range, below-then, below-top, In-closed, closed-In, In-below, below-In, least-below}
+use Rattle.cover_space.proofs.Inside.{below-range, below-then, In-closed, closed-In, In-below, below-In, least-below}
 use Rattle.cover_space.proofs.Labelled.{IsLabelled}
-use Rattle.cover_space.proofs.Joining.{HasRoot, choice, leads-to, ends-there, along-range, along-below, edge-range}
+use Rattle.cover_space.proofs.Joining.{HasRoot, choice, leads-to, ends-there, along-range, along-below}
 use Rattle.cover_space.proofs.Solids.{Given, has_root}
 
 -- the first of a list that has one number alone
@@ -79,6 +79,7 @@ module _ (G : Given) (X : List (List (List ℕ))) (hs : IsSpace X) (regular : Is
     where
       j : IsBelow X d c 1 t.edge
       j = closed-In X hs d c r i
+
       by : (b : Bool) → t.forward ≡ b → Reaches (leads X m u (below X d c 1)) (places X m d c) (sheeted m (least_vertex X d c) s) (sheeted m (start_of X t) y) → InRange m y
           → holds (places X m d c) (sheeted m (end_of X t) (step u t y)) ≡ true → Reaches (leads X m u (below X d c 1)) (places X m d c) (sheeted m (least_vertex X d c) s) (sheeted m (end_of X t) (step u t y))
       by true e k p n = reach_on k (rw e (edge-forth t.edge y j p)) n
@@ -176,3 +177,18 @@ module _ (G : Given) (X : List (List (List ℕ))) (hs : IsSpace X) (regular : Is
   pub sheet-below : (over : ℕ → ℕ) → IsChoice X m u d c s over → (e n w : ℕ) → IsBelow X d c e n → IsBelow X e n 0 w → sheet X m u e n (over (least_vertex X e n)) w ≡ over w
   sheet-below over is e n w i j =
       sheet-of G X hs regular m u h e n (over (least_vertex X e n)) (below-range X hs d c r i) (is.sheets (least_vertex X e n)) over (choice-below over is e n i) w j
+
+  -- over the vertices of a facet
+  module _ (over : ℕ → ℕ) (is : IsChoice X m u d c s over) where
+    same-below : (e n w : ℕ) → IsBelow X d c e n → IsBelow X e n 0 w → sheet X m u e n (sheet X m u d c s (least_vertex X e n)) w ≡ sheet X m u d c s w
+    same-below e n w i j =
+        let r1 : InRange (count X e) n = below-range X hs d c r i in
+        let at : sheet X m u d c s (least_vertex X e n) ≡ over (least_vertex X e n) = sheet-of G X hs regular m u h d c s r q over is (least_vertex X e n) (below-then X hs d c e n i (least-below X hs e n r1)) in
+        ap (λ (t : ℕ). sheet X m u e n t w) at ∙ (sheet-below over is e n w i j ∙ sym (sheet-of G X hs regular m u h d c s r q over is w (below-then X hs d c e n i j)))
+
+module _ (G : Given) (X : List (List (List ℕ))) (hs : IsSpace X) (regular : IsRegular X) (m : ℕ) (u : List (List ℕ)) (h : IsLabelled X m u) where
+  pub facet-agrees : (d c s f w : ℕ) → InRange (count X (suc d)) c → InRange m s → Contains (facets_of X (suc d) c) f → Contains (closed_cell X d f) (cell_at 0 w) → sheet X m u d f (sheet X m u (suc d) c s (least_vertex X d f)) w ≡ sheet X m u (suc d) c s w
+  facet-agrees d c s f w r q i k =
+      let t = one-choice G X hs regular m u h (suc d) c s r q in
+      let j : IsBelow X (suc d) c d f = facet d c f itself i in
+      same-below G X hs regular m u h (suc d) c s r q t.over t.is d f w j (closed-In X hs d f (below-range X hs (suc d) c r j) k)

@@ -1,12 +1,11 @@
 -- The closed cells of dimension 3, and so of all dimensions, have a vertex over which each sheet has its choice.
-use Rattle.std.proofs.Common.{◌≡◌, ◌≢◌, inl, inr, ◌⊎◌, ℕ, zero, suc, ◌+◌, ◌<◌, ◌≤◌, List, [], ◌∷◌, ◌++◌, map, filter, length, eqb, Bool, true, false, not, ◌||◌, ◌&&◌, get_or, refl, ap, sym, ◌∙◌, subst, arith, Contains}
+use Rattle.std.proofs.Common.{◌≡◌, ◌≢◌, inl, inr, ℕ, zero, suc, ◌≤◌, List, eqb, Bool, true, false, not, ◌||◌, get_or, refl, sym, subst, arith, Contains}
 use Rattle.std.proofs.lemmas.Bool.{eqb-true, eq-eqb, ne_eqb, eqb-false, false≢true, cases_lt}
 use Rattle.std.specs.List.{list_any}
-use Rattle.number_lists.specs.Members.{In, here, there}
+use Rattle.number_lists.specs.Members.{In}
 use Rattle.number_lists.specs.Words.{upto, holds}
 use Rattle.number_lists.proofs.CallerLemmas.{In-Contains, Contains-In, In-filter, filter-In, In-inside, any-In, any-some, holds-In, In-holds, In-upto}
 use Rattle.face_poset.specs.declared.cells.Cell.{Cell}
-use Rattle.face_poset.specs.declared.cells.Pair.{Pair}
 use Rattle.face_poset.specs.Poset.{IsSpace, count, facets_of}
 use Rattle.face_poset.specs.Below.{cell_at, closed_cell, IsBelow, itself, facet}
 use Rattle.regular_check.specs.Rules.{IsRegular}
@@ -14,11 +13,11 @@ use Rattle.regular_check.specs.Cycle.{CyclesGoRound}
 use Rattle.pair_laws.specs.Joins.{Joins}
 use Rattle.pair_laws.specs.Sphere.{HasTrees}
 use Rattle.sphere_collapses.specs.Collapses.{same, boundary_less}
-use Rattle.sphere_collapses.specs.Laws.{IsFaceOf, SpheresHaveTrees, BoundariesCollapse, IsClosedList, HasSection, CollapsedWalksClose, WalksClose}
+use Rattle.sphere_collapses.specs.Laws.{IsFaceOf, SpheresHaveTrees, BoundariesCollapse, IsClosedList, CollapsedWalksClose, WalksClose}
 use Rattle.sphere_collapses.specs.Spheres.{first_end, last_end, edges_below, vertices_below, first_side, last_side, edges_of}
 use Rattle.sheet_laws.specs.Permutations.{InRange}
 use Rattle.cover_space.specs.Total.{least_vertex, below}
-use Rattle.cover_space.proofs.Inside.{dim_low, facet_in, first_facet, below-range, below-dim, below-then, below-top, below-facet, In-closed, closed-In, In-below, below-In, least-below}
+use Rattle.cover_space.proofs.Inside.{dim_low, first_facet, below-range, below-dim, below-top, below-facet, In-closed, closed-In, In-below, least-below}
 use Rattle.cover_space.proofs.Labelled as labelled
 use Rattle.cover_space.proofs.Labelled.{IsLabelled, in_range, range-true, range-from, are_inverse}
 use Rattle.cover_space.proofs.Chained.{tree-joins}
@@ -61,8 +60,10 @@ module _ (G : Given) (X : List (List (List ℕ))) (hs : IsSpace X) (regular : Is
       where
         i : IsBelow X 3 c d n
         i = left-below d n k
+
         passes : not (same (cell_at 3 c) (cell_at d n) || same (cell_at 2 (get_or (facets_of X 3 c) 0 0)) (cell_at d n)) ≡ true
         passes = filter-In (λ (k : Cell). not (same (cell_at 3 c) k || same (cell_at 2 (get_or (facets_of X 3 c) 0 0)) k)) (closed_cell X 3 c) (Contains-In k)
+
         by : d ≤ 3 → (b : Bool) → eqb d 3 ≡ b → d ≤ 2
         by l false e = elim (cases_lt d 3) [ inl a ↦ omega (arith, a) | inr a ↦ absurd (eqb-false d 3 e (omega (arith, a, l))) ]
         by l true e =
