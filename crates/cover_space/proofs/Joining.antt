@@ -72,6 +72,10 @@ module _ (X : List (List (List ℕ))) (hs : IsSpace X) (regular : IsRegular X) (
             let b : perms.back f (at f y) ≡ y = back-of-at m f (permutes e (edge-range e i)) y p in
             (s.0, record { here_is = sym a ∙ (ap (perms.back f) (s.1.edges e i ∙ s.1.here_is) ∙ b); sheets = s.1.sheets; edges = s.1.edges })
 
+    -- so each vertex of the closed cell has them
+    pub choice-over : HasRoot X m u d c → (v : ℕ) → IsBelow X d c 0 v → (x : ℕ) → InRange m x → HasFlat X m u (IsBelow X d c 1) v x
+    choice-over root v i x q = moved (root.joined v i) root.choices x q
+
     -- the choice from the least vertex on
     pub choice : HasRoot X m u d c → (s : ℕ) → InRange m s → (over : ℕ → ℕ) × IsChoice X m u d c s over
     choice root s q =

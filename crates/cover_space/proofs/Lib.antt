@@ -7,4 +7,5 @@ mod Solids
 mod Sheets
 mod Laid
 mod Copies
+mod Components
 mod Examples

@@ -1,21 +1,23 @@
--- Total spaces: from a labelling of a space the space that covers it. Over each cell stands a cell for each sheet, that of the sheet over the
--- least vertex of the cell; its facets are those of the sheets where edge paths inside the closed cell lead. (Covering spaces by monodromy;
--- textbook.) space is the lists of a space, m the number of sheets, u a labelling: the permutation of each edge; dim is a dimension, cell a
--- cell of it, s, x and y are sheets, v and w vertices; cells and sheets are numbered from 1.
+-- Total spaces: from a labelling of a space the space that covers it. Over each cell stands a cell for each sheet, that
+-- of the sheet over the least vertex of the cell; its facets are those of the sheets where edge paths inside the closed
+-- cell lead. (Covering spaces by monodromy; textbook.) space is the lists of a space, m the number of sheets, u a
+-- labelling: the permutation of each edge; dim is a dimension, cell a cell of it, s, x and y are sheets, v and w
+-- vertices; cells and sheets are numbered from 1.
 --   least_vertex space dim cell              the least vertex of a closed cell
 --   sheeted m cell s                         the number of the cell over this one at the sheet s
 --   below space dim cell d                   the cells of dimension d in a closed cell, in increasing order
---   Along space u dim cell s w y             an edge path inside the closed cell leads from the sheet s over its least vertex to the sheet y
---                                            over the vertex w
+--   Along space u dim cell s w y             an edge path inside the closed cell leads from the sheet s over its least
+--                                            vertex to the sheet y over the vertex w
 --   places space m dim cell                  the sheets over the vertices of a closed cell, by their numbers
---   leads space m u edges p q                whether one of the edges, taken either way, leads from one sheet over a vertex to another;
---                                            both by their numbers
+--   leads space m u edges p q                whether one of the edges, taken either way, leads from one sheet over a
+--                                            vertex to another; both by their numbers
 --   sheet space m u dim cell s w             the first y that is so reached over w, computed
 --   facet_over space m u dim cell s facet    the facet over this one of the cell over `cell` at the sheet s
---   cell_over space m u dim cell s           the facets of the cell over this one at the sheet s, in the order of the facets
+--   cell_over space m u dim cell s           the facets of the cell over this one at the sheet s, by those of this one
 --   layer_over space m u dim                 the cells over those of a dimension, by cell, then by sheet
 --   total_of space m u                       the total space: these lists for the dimensions 0 to 3
-use Rattle.std.specs.Prelude.{ℕ, ◌+◌, ◌-◌, ◌*◌, ◌==◌, ◌&&◌, ◌||◌, List, [], ◌∷◌, filter, map, Contains, Bool, slice_index, slice_index_or}
+use Rattle.std.specs.Prelude.{ℕ, ◌+◌, ◌-◌, ◌*◌, ◌==◌, ◌&&◌, ◌||◌, List, [], ◌∷◌, filter, map, Contains, Bool}
+use Rattle.std.specs.Prelude.{slice_index, slice_index_or}
 use Rattle.std.specs.List.{list_any, flat_map}
 use Rattle.number_lists.specs.Words.{upto}
 use Rattle.number_lists.specs.Reach.{reaches}

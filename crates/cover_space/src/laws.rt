@@ -1,8 +1,8 @@
 // Laws on definitions: each is the contract of a function that does nothing at run time.
 ghost use Rattle.cover_space.specs.Laws.{ClosedCellsAreCoveredByCopies, FacetsAgree, SheetsAreAlong};
-ghost use Rattle.cover_space.specs.Laws.{TotalIsASpace, TotalIsRegular};
+ghost use Rattle.cover_space.specs.Laws.{EachCellLiesOverOne, TotalHasComponents, TotalIsASpace, TotalIsRegular};
 
-use regular_check::cycles_go_round;
+use regular_check::{components_are_numbered, cycles_go_round, same_component_is_a_path};
 use sphere_collapses::{boundaries_collapse, collapsed_walks_close, spheres_have_trees};
 
 /// A law, and nothing at run time: for each cell of a regular space and each sheet over its least vertex
@@ -48,4 +48,23 @@ pub fn total_is_regular()
     spheres_have_trees();
     boundaries_collapse();
     collapsed_walks_close();
+}
+
+/// A law, and nothing at run time: it has one component, where the space has one and the labelling is
+/// connected.
+pub fn total_has_components()
+    ensures { TotalHasComponents }
+{
+    cycles_go_round();
+    spheres_have_trees();
+    boundaries_collapse();
+    collapsed_walks_close();
+    same_component_is_a_path();
+    components_are_numbered();
+}
+
+/// A law, and nothing at run time: over each cell stand those at the sheets 1 to m, and no others.
+pub fn each_cell_lies_over_one()
+    ensures { EachCellLiesOverOne }
+{
 }
