@@ -1,30 +1,29 @@
 -- The total space of a connected labelling has one component; and each of its cells lies over one cell.
-use Rattle.std.proofs.Common.{◌≡◌, ℕ, suc, ◌*◌, ◌≤◌, List, Bool, true, false, ◌&&◌, map, get_or, refl, ap, sym, ◌∙◌, subst, arith}
-use Rattle.std.specs.List.{list_any}
+use Rattle.std.proofs.Common.{◌≡◌, ℕ, ◌≤◌, List, Bool, true, false, ◌&&◌, refl, ap, sym, ◌∙◌, subst, arith}
 use Rattle.std.proofs.lemmas.Bool.{and_from}
 use Rattle.number_lists.specs.Members.{In}
-use Rattle.number_lists.specs.Words.{upto, holds}
+use Rattle.number_lists.specs.Words.{holds}
 use Rattle.number_lists.specs.Reach.{Reaches, at_start, on as reach_on}
 use Rattle.number_lists.proofs.CallerLemmas.{any-In, In-holds, In-upto, In-map, In-Contains}
-use Rattle.face_poset.specs.Poset.{IsSpace, count, cell_count, facets_of}
+use Rattle.face_poset.specs.Poset.{IsSpace, count, facets_of}
 use Rattle.face_poset.specs.Below.{IsBelow, itself, facet}
 use Rattle.regular_check.specs.declared.cycles.Step.{Step}
 use Rattle.regular_check.specs.Rules.{IsRegular}
 use Rattle.regular_check.specs.Cycle.{start_of, end_of}
-use Rattle.regular_check.specs.Components.{vertices, share_edge, component_of, component_count, SameComponentIsAPath, ComponentsAreNumbered}
+use Rattle.regular_check.specs.Components.{vertices, share_edge, component_count, SameComponentIsAPath, ComponentsAreNumbered}
 use Rattle.sphere_collapses.specs.Spheres.{first_end, last_end}
 use Rattle.sheet_laws.specs.Permutations as perms
 use Rattle.sheet_laws.specs.Permutations.{InRange, at}
 use Rattle.sheet_laws.specs.Labellings.{label, step, Joined, here as at_end, on, IsConnected}
 use Rattle.sheet_laws.proofs.CallerLemmas.{Ends, ends-of, number-range, same_vertex, same_sheet, back_turn, at-of-back, step-into, label-permutes}
-use Rattle.cover_space.specs.Total.{least_vertex, sheeted, sheet, facet_over, cell_over, total_of}
-use Rattle.cover_space.specs.Laws.{IsChoice, LiesOver, AreOver}
-use Rattle.cover_space.proofs.Inside.{below-range, In-closed, closed-In, least-below}
+use Rattle.cover_space.specs.Total.{least_vertex, sheeted, facet_over, total_of}
+use Rattle.cover_space.specs.Laws.{IsChoice, AreOver}
+use Rattle.cover_space.proofs.Inside.{closed-In}
 use Rattle.cover_space.proofs.Labelled.{IsLabelled}
 use Rattle.cover_space.proofs.Joining.{choice-over}
 use Rattle.cover_space.proofs.Solids.{Given, has_root}
 use Rattle.cover_space.proofs.Sheets.{sheet-of}
-use Rattle.cover_space.proofs.Laid.{count-total, facets-total, facet-over, split}
+use Rattle.cover_space.proofs.Laid.{count-total, facets-total, split}
 
 -- ---- cells over cells
 
@@ -87,6 +86,7 @@ module _ (G : Given) (X : List (List (List ℕ))) (hs : IsSpace X) (regular : Is
     where
       p : perms.is_permutation m (label u s.edge) ≡ true
       p = label-permutes m (count X 1) u h.long h.permutations s.edge r
+
       by : (b : Bool) → s.forward ≡ b → share_edge (total_of X m u) (sheeted m (start_of X s) x) (sheeted m (end_of X s) (step u s x)) ≡ true
       by true e = rw e (let k = has_edge s.edge x r q in shared (sheeted m (first_end X s.edge) x) (sheeted m (last_end X s.edge) (at (label u s.edge) x)) k.number k.range k.first k.last)
       by false e = rw e

@@ -66,5 +66,4 @@ pub fn total_has_components()
 /// A law, and nothing at run time: over each cell stand those at the sheets 1 to m, and no others.
 pub fn each_cell_lies_over_one()
     ensures { EachCellLiesOverOne }
-{
-}
+{}

@@ -9,6 +9,6 @@
 mod laws;
 
 pub use laws::{
-    closed_cells_are_covered_by_copies, each_cell_lies_over_one, sheet_is_along, total_has_components,
-    total_is_a_space, total_is_regular,
+    closed_cells_are_covered_by_copies, each_cell_lies_over_one, sheet_is_along,
+    total_has_components, total_is_a_space, total_is_regular,
 };
