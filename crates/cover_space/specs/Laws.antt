@@ -1,7 +1,7 @@
 -- What is proved of total spaces, for any regular space, any labelling u of it by m sheets, any cell and any sheet s.
---   IsChoice space m u dim cell s over  `over` gives each vertex a sheet, s over the least vertex of the closed cell, and
---                                       each edge of the closed cell leads from the sheet over its first end to that over
---                                       its last
+--   IsChoice space m u dim cell s over  `over` gives each vertex a sheet, s over the least vertex of the closed cell;
+--                                       each edge of the closed cell leads from the sheet over its first end to that
+--                                       over its last
 --   HasOneChoice space m u dim cell s   there is one such choice over the vertices of the closed cell, and each edge
 --                                       path inside ends where it says
 --   ClosedCellsAreCoveredByCopies       so it is
