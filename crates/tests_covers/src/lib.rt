@@ -1,5 +1,5 @@
-//! Tests of fields of pairs with more pairs, of chosen fields, of the parts of a space, of collapses, and of the laws
-//! of covers.
+//! Tests of fields of pairs with more pairs, of chosen fields, of the parts of a space, of collapses, of words
+//! and labels, and of the laws of covers.
 //!
 //! They show what no clause says: that calls succeed where there is memory, and worked examples.
 #![tactic(auto)]
@@ -14,5 +14,7 @@ mod filling;
 mod laws;
 #[cfg(test)]
 mod parts;
+#[cfg(test)]
+mod words;
 #[cfg(test)]
 mod worked;
