@@ -1,5 +1,6 @@
 -- One cell more, or one less, and what it does to the columns.
-use Rattle.std.proofs.Common.{◌≡◌, ℕ, zero, suc, ◌+◌, ◌-◌, ◌*◌, ◌/◌, ◌%◌, ◌<◌, ◌≤◌, List, [], ◌∷◌, ◌++◌, length, refl, ap, arith, sym, ◌∙◌, subst, ◌⊎◌, inl, inr, Bool, true, false, cond, ◌&&◌, ◌||◌, take, get_or, get_or-set_same, get_or-set_other, length-set}
+use Rattle.std.proofs.Common.{◌≡◌, ℕ, zero, suc, ◌+◌, ◌-◌, ◌*◌, ◌/◌, ◌%◌, ◌<◌, ◌≤◌, List, [], ◌∷◌, ◌++◌, length, refl, ap, arith, sym, ◌∙◌, subst, ◌⊎◌, inl, inr, Bool, true, false, ◌&&◌, ◌||◌, take, get_or, get_or-set_same, get_or-set_other, length-set}
+use Rattle.std.specs.Prelude.{if◌then◌else◌}
 use Rattle.std.specs.Prelude.{◌==◌, not, nat_lt, nat_le, ℤ, Option, Some, None, find, slice_get, slice_set, slice_index_or, max}
 use Rattle.std.proofs.lemmas.Bool.{eqb-true, eq-eqb, ltb-true, leb-true, lt-ltb}
 use Rattle.std.proofs.lemmas.List.{get_or-map, get_or_read, take_more, take_more_set, take-set-le, length-take-le}
@@ -139,7 +140,7 @@ find-first f a (suc n) k e l h low = one (near a k l) (λ j. find-first f (suc a
     near : (a k : ℕ) → a ≤ k → (a ≡ k) ⊎ (a < k)
     near a k l = eq-or-lt_of_le l
 
-    one : (a ≡ k) ⊎ (a < k) → (a < k → find f (from (suc a) n) ≡ Some k) → cond (f a) (Some a) (find f (from (suc a) n)) ≡ Some k
+    one : (a ≡ k) ⊎ (a < k) → (a < k → find f (from (suc a) n) ≡ Some k) → (if f a then Some a else find f (from (suc a) n)) ≡ Some k
     one (inl j) next = rw (subst (λ v. f v ≡ true) (sym j) e) (ap Some j)
     one (inr j) next = rw (low a (omega arith) j) (next j)
 
@@ -220,7 +221,7 @@ holds-put c m p q letter columns k s x e l h holds here other g i = one (g == k)
 
 -- ---- one cell more, in row r and column k, from 0
 
-within-byte : (s m : ℕ) (o : Option ℕ) (x : ℕ) → s < m → byte_of o ≡ x → cond (nat_lt s m) (byte_of o) s ≡ x
+within-byte : (s m : ℕ) (o : Option ℕ) (x : ℕ) → s < m → byte_of o ≡ x → (if nat_lt s m then byte_of o else s) ≡ x
 within-byte s m o x l e = rw (lt-ltb s m l) e
 
 ahead-here : (c m : ℕ) (p : List ℕ) (x r k : ℕ) → length p ≡ c * r + k → r < m → step c m (p ++ x ∷ []) (ahead k) r ≡ x - 1
@@ -230,7 +231,7 @@ ahead-gone : (c m : ℕ) (p : List ℕ) (r k : ℕ) → length p ≡ c * r + k �
 ahead-gone c m p r k e l = within-byte r m _ _ l (ap byte_of (entry-past c p r k (suc r) k e refl (omega arith)))
 
 ahead-other : (c m : ℕ) (p : List ℕ) (x r k : ℕ) → length p ≡ c * r + k → k < c → (g t : ℕ) → g < c → (g ≡ k → t ≡ r → ⊥) → step c m (p ++ x ∷ []) (ahead g) t ≡ step c m p (ahead g) t
-ahead-other c m p x r k e l g t h away = ap (λ o. cond (nat_lt t m) (byte_of o) t) (entry-other c p x r k (suc t) g e l h (λ i j. away i (omega (arith, j))))
+ahead-other c m p x r k e l g t h away = ap (λ o. (if nat_lt t m then byte_of o else t)) (entry-other c p x r k (suc t) g e l h (λ i j. away i (omega (arith, j))))
 
 is_entry-other : (c : ℕ) (p : List ℕ) (x r k u g s : ℕ) → length p ≡ c * r + k → k < c → g < c → (g ≡ k → x ≡ s → ⊥) → is_entry c (p ++ x ∷ []) u (suc g) s ≡ is_entry c p u (suc g) s
 is_entry-other c p x r k u g s e l h away = one ((g == k) && (u - 1 == r)) refl
@@ -252,7 +253,7 @@ is_entry-other c p x r k u g s e l h away = one ((g == k) && (u - 1 == r)) refl
     one false z = ap (λ o. elim o [ None ↦ false | Some v ↦ v == s ]) (entry-other c p x r k u g e l h (λ i j. clash (both (g == k) (u - 1 == r) (eq-eqb g k i) (eq-eqb (u - 1) r j)) z))
 
 behind-other : (c m : ℕ) (p : List ℕ) (x y r k : ℕ) → x ≡ suc y → length p ≡ c * r + k → k < c → (g t : ℕ) → g < c → (g ≡ k → t ≡ y → ⊥) → step c m (p ++ x ∷ []) (behind g) t ≡ step c m p (behind g) t
-behind-other c m p x y r k i e l g t h away = ap (λ o. cond (nat_lt t m) (byte_of o) t)
+behind-other c m p x y r k i e l g t h away = ap (λ o. (if nat_lt t m then byte_of o else t))
     (find-same (λ u. is_entry c (p ++ x ∷ []) u (suc g) (suc t)) (λ u. is_entry c p u (suc g) (suc t)) (λ u. is_entry-other c p x r k u g (suc t) e l h (λ a b. away a (omega (arith, b, i)))) (from 1 m))
 
 behind-gone : (c m : ℕ) (p : List ℕ) (x y r k : ℕ) → x ≡ suc y → length p % c ≡ k → k < c → Next c m p x → step c m p (behind k) y ≡ 255

@@ -1,5 +1,6 @@
 -- An empty table.
-use Rattle.std.proofs.Common.{◌≡◌, ℕ, zero, suc, ◌+◌, ◌*◌, ◌<◌, ◌≤◌, List, [], length, refl, ap, arith, sym, ◌∙◌, subst, ◌⊎◌, inl, inr, cond, take, replicate, get_or, get_or-set_same, get_or-set_other, ◌^◌}
+use Rattle.std.proofs.Common.{◌≡◌, ℕ, zero, suc, ◌+◌, ◌*◌, ◌<◌, ◌≤◌, List, [], length, refl, ap, arith, sym, ◌∙◌, subst, ◌⊎◌, inl, inr, take, replicate, get_or, get_or-set_same, get_or-set_other, ◌^◌}
+use Rattle.std.specs.Prelude.{if◌then◌else◌}
 use Rattle.std.specs.Prelude.{nat_lt, ℤ, pos, negsuc, None, slice_set, slice_index_or}
 use Rattle.std.proofs.lemmas.Bool.{lt-ltb, le-ltb, cases_lt}
 use Rattle.std.proofs.lemmas.List.{get_or-map, length-replicate}
@@ -15,9 +16,9 @@ blank-length : (m : ℕ) → length (blank m) ≡ 8
 unfolding blank
 blank-length m = refl
 
-blank-at : (m s : ℕ) → s < 8 → get_or (blank m) s 0 ≡ cond (nat_lt s m) 255 s
+blank-at : (m s : ℕ) → s < 8 → get_or (blank m) s 0 ≡ (if nat_lt s m then 255 else s)
 unfolding blank
-blank-at m s l = get_or-map (λ s. cond (nat_lt s m) 255 s) (from 0 8) s 0 0 l ∙ ap (λ s. cond (nat_lt s m) 255 s) (from-at 0 8 s 0 l ∙ omega arith)
+blank-at m s l = get_or-map (λ s. (if nat_lt s m then 255 else s)) (from 0 8) s 0 0 l ∙ ap (λ s. (if nat_lt s m then 255 else s)) (from-at 0 8 s 0 l ∙ omega arith)
 
 -- no letter leads anywhere in the empty table
 pub led-none : (c m : ℕ) (l : ℤ) (s : ℕ) → led c m [] l s ≡ None
@@ -26,33 +27,33 @@ led-none c m (negsuc g) s = find-none (λ u. is_entry c [] u (suc g) s) (from 1 
 
 pub blank-bytes : (c m : ℕ) (l : ℤ) → blank m ≡ bytes c m [] l
 blank-bytes c m l = same_number_lists (blank m) (bytes c m [] l) (blank-length m ∙ sym (bytes-length c m [] l))
-    (λ s h. let k : s < 8 = subst (λ n. s < n) (blank-length m) h in blank-at m s k ∙ (sym (ap (λ o. cond (nat_lt s m) (byte_of o) s) (led-none c m l (suc s))) ∙ sym (bytes-at c m [] l s k)))
+    (λ s h. let k : s < 8 = subst (λ n. s < n) (blank-length m) h in blank-at m s k ∙ (sym (ap (λ o. (if nat_lt s m then byte_of o else s)) (led-none c m l (suc s))) ∙ sym (bytes-at c m [] l s k)))
 
 -- one sheet more
-pub blank-more : (row : List ℕ) (k : ℕ) → length row ≡ 8 → k < 8 → ((s : ℕ) → s < 8 → get_or row s 0 ≡ cond (nat_lt s k) 255 s) → (s : ℕ) → s < 8 → get_or (slice_set row k 255) s 0 ≡ cond (nat_lt s (k + 1)) 255 s
+pub blank-more : (row : List ℕ) (k : ℕ) → length row ≡ 8 → k < 8 → ((s : ℕ) → s < 8 → get_or row s 0 ≡ (if nat_lt s k then 255 else s)) → (s : ℕ) → s < 8 → get_or (slice_set row k 255) s 0 ≡ (if nat_lt s (k + 1) then 255 else s)
 blank-more row k e l h s i = one (cases_lt s k)
   where
-    both : (s m : ℕ) → s < m → cond (nat_lt s m) 255 s ≡ 255
+    both : (s m : ℕ) → s < m → (if nat_lt s m then 255 else s) ≡ 255
     both s m j = rw (lt-ltb s m j) refl
 
-    none : (s m : ℕ) → m ≤ s → cond (nat_lt s m) 255 s ≡ s
+    none : (s m : ℕ) → m ≤ s → (if nat_lt s m then 255 else s) ≡ s
     none s m j = rw (le-ltb s m j) refl
 
-    two : (k ≡ s) ⊎ (k < s) → get_or (slice_set row k 255) s 0 ≡ cond (nat_lt s (k + 1)) 255 s
-    two (inl j) = subst (λ n. get_or (slice_set row k 255) n 0 ≡ cond (nat_lt n (k + 1)) 255 n) j (get_or-set_same row k 255 0 (omega (arith, l, e)) ∙ sym (both k (k + 1) (omega arith)))
+    two : (k ≡ s) ⊎ (k < s) → get_or (slice_set row k 255) s 0 ≡ (if nat_lt s (k + 1) then 255 else s)
+    two (inl j) = subst (λ n. get_or (slice_set row k 255) n 0 ≡ (if nat_lt n (k + 1) then 255 else n)) j (get_or-set_same row k 255 0 (omega (arith, l, e)) ∙ sym (both k (k + 1) (omega arith)))
     two (inr j) = get_or-set_other row k s 255 0 (λ v. far v j) ∙ (h s i ∙ (none s k (omega (arith, j)) ∙ sym (none s (k + 1) (omega (arith, j)))))
       where
         far : s ≡ k → k < s → ⊥
         far v j = omega (arith, v, j)
 
-    one : (s < k) ⊎ (k ≤ s) → get_or (slice_set row k 255) s 0 ≡ cond (nat_lt s (k + 1)) 255 s
+    one : (s < k) ⊎ (k ≤ s) → get_or (slice_set row k 255) s 0 ≡ (if nat_lt s (k + 1) then 255 else s)
     one (inl j) = get_or-set_other row k s 255 0 (λ v. far v j) ∙ (h s i ∙ (both s k j ∙ sym (both s (k + 1) (omega (arith, j)))))
       where
         far : s ≡ k → s < k → ⊥
         far v j = omega (arith, v, j)
     one (inr j) = two (eq-or-lt_of_le j)
 
-pub blank-is : (row : List ℕ) (m : ℕ) → length row ≡ 8 → ((s : ℕ) → s < 8 → get_or row s 0 ≡ cond (nat_lt s m) 255 s) → row ≡ blank m
+pub blank-is : (row : List ℕ) (m : ℕ) → length row ≡ 8 → ((s : ℕ) → s < 8 → get_or row s 0 ≡ (if nat_lt s m then 255 else s)) → row ≡ blank m
 blank-is row m e h = same_number_lists row (blank m) (e ∙ sym (blank-length m)) (λ s k. let i : s < 8 = subst (λ n. s < n) e k in h s i ∙ sym (blank-at m s i))
 
 pub raised : (c m n at k : ℕ) (cells seen : List ℕ) (forward backward : List (List ℕ)) (ahead_of behind_of : List (List ℕ)) → IsWalker c m n at cells seen forward backward → 0 < k → k ≤ n

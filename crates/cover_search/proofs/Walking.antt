@@ -1,5 +1,6 @@
 -- Letters and words, read off the columns.
-use Rattle.std.proofs.Common.{◌≡◌, ◌≢◌, ℕ, zero, suc, ◌+◌, ◌-◌, ◌*◌, ◌<◌, ◌≤◌, ◌/◌, ◌%◌, zero-add, List, [], ◌∷◌, ◌++◌, length, refl, ap, arith, sym, ◌∙◌, subst, Bool, true, false, cond, ◌&&◌, drop, take, get_or, drop-cons, ◌⊎◌, inl, inr}
+use Rattle.std.proofs.Common.{◌≡◌, ◌≢◌, ℕ, zero, suc, ◌+◌, ◌-◌, ◌*◌, ◌<◌, ◌≤◌, ◌/◌, ◌%◌, zero-add, List, [], ◌∷◌, ◌++◌, length, refl, ap, arith, sym, ◌∙◌, subst, Bool, true, false, ◌&&◌, drop, take, get_or, drop-cons, ◌⊎◌, inl, inr}
+use Rattle.std.specs.Prelude.{if◌then◌else◌}
 use Rattle.std.specs.Prelude.{◌==◌, nat_lt, ℤ, pos, negsuc, Option, Some, None, find, slice_get}
 use Rattle.std.proofs.lemmas.Bool.{lt-ltb, ltb-true, eqb-true, eq-eqb, le-leb}
 use Rattle.std.proofs.lemmas.Option.{slice_get-get_or}
@@ -50,7 +51,7 @@ pub record Read (c m : ℕ) (p : List ℕ) (l : ℤ) (s x : ℕ) : Type 0 where
 pub read_of : (c m : ℕ) (p : List ℕ) (l : ℤ) (s x : ℕ) → follows c m [] p ≡ true → m ≤ 8 → s < m → x ≡ step c m p l s → Read c m p l s x
 read_of c m p l s x e k h i = one (led c m p l (suc s)) refl (i ∙ plain (nat_lt s m) (lt-ltb s m h))
   where
-    plain : (b : Bool) → b ≡ true → cond b (byte_of (led c m p l (suc s))) s ≡ byte_of (led c m p l (suc s))
+    plain : (b : Bool) → b ≡ true → (if b then byte_of (led c m p l (suc s)) else s) ≡ byte_of (led c m p l (suc s))
     plain true z = refl
     plain false z = absurd (grind (arith, z))
 
@@ -90,18 +91,18 @@ ended-more c m p l w s x e k i h = one (nat_lt s m) refl
     one : (b : Bool) → nat_lt s m ≡ b → ended c m p (l ∷ w) s ≡ ended c m p w x
     one true z =
         let r : Read c m p l s x = read_of c m p l s x e k (ltb-true s m z) i in
-        ap (λ b. cond b (trace c m p (l ∷ w) (suc s)) (Some (suc s))) z
+        ap (λ b. (if b then trace c m p (l ∷ w) (suc s) else Some (suc s))) z
         ∙ (ap (λ o. elim o [ None ↦ None | Some t ↦ trace c m p w t ]) (sym (r.there far))
-        ∙ sym (ap (λ b. cond b (trace c m p w (suc x)) (Some (suc x))) (lt-ltb x m (r.within far))))
+        ∙ sym (ap (λ b. (if b then trace c m p w (suc x) else Some (suc x))) (lt-ltb x m (r.within far))))
     one false z = let j : x ≡ s = i ∙ step-past c m p l s z in
-        ap (λ b. cond b (trace c m p (l ∷ w) (suc s)) (Some (suc s))) z
-        ∙ sym (subst (λ v. ended c m p w v ≡ Some (suc s)) (sym j) (ap (λ b. cond b (trace c m p w (suc s)) (Some (suc s))) z))
+        ap (λ b. (if b then trace c m p (l ∷ w) (suc s) else Some (suc s))) z
+        ∙ sym (subst (λ v. ended c m p w v ≡ Some (suc s)) (sym j) (ap (λ b. (if b then trace c m p w (suc s) else Some (suc s))) z))
 
 -- no letter is left
 pub ended-done : (c m : ℕ) (p : List ℕ) (s : ℕ) → ended c m p [] s ≡ Some (suc s)
 ended-done c m p s = one (nat_lt s m)
   where
-    one : (b : Bool) → ◌≡◌ {A = Option ℕ} (cond b (Some (suc s)) (Some (suc s))) (Some (suc s))
+    one : (b : Bool) → ◌≡◌ {A = Option ℕ} (if b then Some (suc s) else Some (suc s)) (Some (suc s))
     one true = refl
     one false = refl
 
@@ -186,7 +187,7 @@ kept_at_once t w ends v h = one_up (λ s. get_or ends s 0 == s) (λ s. no_other 
     same a b = grind arith
 
     at : (s : ℕ) → s < t.sheets → (get_or ends s 0 == s) ≡ no_other (trace t.columns t.sheets t.cells w (suc s)) (suc s)
-    at s k = same (get_or ends s 0) s ∙ ap (λ o. no_other o (suc s)) (sym (h s (omega (arith, k, v.most))) ∙ ap (λ b. cond b (trace t.columns t.sheets t.cells w (suc s)) (Some (suc s))) (lt-ltb s t.sheets k))
+    at s k = same (get_or ends s 0) s ∙ ap (λ o. no_other o (suc s)) (sym (h s (omega (arith, k, v.most))) ∙ ap (λ b. (if b then trace t.columns t.sheets t.cells w (suc s) else Some (suc s))) (lt-ltb s t.sheets k))
 
 -- ---- whether a sheet may come next
 

@@ -45,7 +45,6 @@ ahead p = here p ∷ left_of p
 pub record IsCourse (P : Relations) (index : List (List ℕ)) (w : Partial) : Type 0 where
   pub columns : w.columns ≡ P.generators
   pub partial : IsPartial w
-  pub few : length P.relators < 2 ^ 32
   pub letters : All (AreLetters P.generators) P.relators
   pub indexed : IsIndex P index
   pub sound : sound P w.sheets w.cells ≡ true

@@ -6,11 +6,12 @@ use Rattle.std.specs.Prelude.{◌≡◌, ◌*◌, ◌<◌, ◌≤◌, [], length
 use Rattle.live_laws.specs.Live.{Position, live}
 use Rattle.sheet_tables.specs.Positions.{Place}
 use Rattle.sheet_tables.specs.Tables.{Rows}
+use Rattle.cover_search.specs.Searches.{at}
 use Rattle.cover_search.specs.Courses.{Passage, left_of, ahead}
 
 pub record IsHeld (p : Passage) (stands : Bool) (here : Place) (table : Rows) : Type 0 where
-  pub some : stands ≡ true → (0 < length p.cells) × (live p.relations p.most (here.sheets, here.cells) ≡ ahead p)
-  pub none : stands ≡ false → live p.relations p.most (here.sheets, here.cells) ≡ []
+  pub some : stands ≡ true → (0 < length p.cells) × (live p.relations p.most (at here) ≡ ahead p)
+  pub none : stands ≡ false → live p.relations p.most (at here) ≡ []
   pub room : p.most * p.relations.generators ≤ here.room
   pub table_room : p.most ≤ table.room
   pub columns : table.columns ≡ p.relations.generators
@@ -25,5 +26,5 @@ pub record IsBegun (p : Passage) (here : Place) : Type 0 where
   pub room : p.most * p.relations.generators ≤ here.room
 
 pub record BeginsAt (p : Passage) (here : Place) (t : Position) : Type 0 where
-  pub position : (here.sheets, here.cells) ≡ t
+  pub position : at here ≡ t
   pub left : live p.relations p.most t ≡ left_of p

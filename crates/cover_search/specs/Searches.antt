@@ -1,5 +1,7 @@
 -- Searches through live partial tables. P are relations, n is the most sheets, t a position; old and new are a search before and after a
 -- call that took k units and left a budget.
+--   at p                     where a position of sheet_tables stands
+--   shown t                  the sheets and cells of a table of sheet_tables
 --   Searching                what contracts see of a search: the relations, the most sheets, where it stands, whether the table without
 --                            columns was given, and the table that was found last
 --   CanStart P n t           a search may begin there: it is the start, or live with at most n sheets
@@ -18,9 +20,17 @@
 --   SearchesResume           the law: one search goes on where the other stopped
 use Rattle.std.specs.Prelude.{◌≡◌, ◌≢◌, ◌↔◌, ◌⊎◌, ℕ, ◌+◌, ◌≤◌, List, [], ◌∷◌, ◌++◌, length, filter, take, drop, replicate, Bool, true, false}
 use Rattle.sheet_laws.specs.Permutations.{InRange}
+use Rattle.sheet_tables.specs.Positions.{Place}
+use Rattle.sheet_tables.specs.Tables.{Rows}
 use Rattle.live_laws.specs.Live.{Relations, Position, is_live, live, is_listed}
 use Rattle.cover_search.specs.declared.search.Turn.{Turn}
 use Rattle.cover_search.specs.declared.search.Turn.TheVariants.{Found, Done, Spent}
+
+abbrev pub at : Place → Position
+at p = (p.sheets, p.cells)
+
+abbrev pub shown : Rows → Position
+shown t = (t.sheets, t.cells)
 
 pub record Searching : Type 0 where
   pub relations : Relations

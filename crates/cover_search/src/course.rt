@@ -73,7 +73,6 @@ impl<'a> Course<'a> {
         ensures { IfOk result (λ s. s ≡ begun_passage (relations_of presentation.entry.now) most) }
     {
         let columns = presentation.generators().len();
-        let _relators = presentation.relators();
         Ok(Course {
             presentation,
             index: index_of(alloc, presentation)?,
@@ -115,7 +114,8 @@ impl<'a> Course<'a> {
         ensures budget { budget.new < budget.old }
         ensures proper { IsProper result.sheets (take result.length self.new.written) }
         ensures last { IsLast self.new result.sheets result.length }
-        ensures placed { IsPlaced self.old (budget.old - budget.new) (result.sheets, take result.length self.new.written) }
+        ensures placed { IsPlaced self.old (budget.old - budget.new)
+            (result.sheets, take result.length self.new.written) }
         ensures stop { Stops self.old self.new (budget.old - budget.new) budget.new
             (result.sheets, take result.length self.new.written) result.stop }
     {

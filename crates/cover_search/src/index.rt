@@ -1,5 +1,5 @@
 // Which relators name a generator.
-ghost use Rattle.std.specs.Prelude.{◌≡◌, ◌≤◌, ◌<◌, ◌∷◌, ℕ, [], length, IfOk};
+ghost use Rattle.std.specs.Prelude.{◌≡◌, ◌≤◌, ◌<◌, ◌∷◌, ℕ, [], length, All, IfOk};
 ghost use Rattle.live_laws.specs.Walks.{AreLetters};
 ghost use Rattle.edge_words.specs.Words.{relations_of};
 ghost use Rattle.cover_search.specs.Indexes.{IsIndex, IsNaming};
@@ -10,7 +10,8 @@ use std::alloc::{AllocError, Global};
 
 /// For each generator the numbers of the relators that name it.
 pub(crate) fn index_of(alloc: Global, presentation: &Presentation) -> Result<Lists, AllocError>
-    ensures { IfOk result (λ index. IsIndex (relations_of presentation.now) index) }
+    ensures index { IfOk result (λ index. IsIndex (relations_of presentation.now) index) }
+    ensures letters { All (AreLetters (length presentation.now.generators)) presentation.now.relators }
 {
     let most = presentation.generators().len();
     let mut named = Lists::new(alloc);

@@ -1,6 +1,6 @@
 ghost use Rattle.std.specs.Prelude.{◌≡◌, ◌≢◌, ◌≤◌, ◌-◌, true, false, IfOk, IfErr};
 ghost use Rattle.edge_words.specs.Words.{relations_of};
-ghost use Rattle.cover_search.specs.Searches.{CanStart, begun, Goes, TurnsBy, TurnsOnce};
+ghost use Rattle.cover_search.specs.Searches.{at, shown, CanStart, begun, Goes, TurnsBy, TurnsOnce};
 ghost use Rattle.cover_search.specs.Courses.{IsAlong};
 ghost use Rattle.cover_search.specs.Holdings.{IsBegun, BeginsAt};
 
@@ -33,7 +33,7 @@ pub struct Search<'a> {
 }
 
 impl<'a> Model for Search<'a> {
-    ghost use Rattle.cover_search.specs.Searches.{Searching};
+    ghost use Rattle.cover_search.specs.Searches.{Searching, at, shown};
     ghost use Rattle.cover_search.specs.Holdings.{IsHeld};
 
     ghost Value = { Searching };
@@ -61,13 +61,11 @@ impl<'a> Search<'a> {
     ) -> Result<Search<'a>, SearchFault>
         requires least { 1 ≤ sheets }
         requires most { sheets ≤ 8 }
-        ensures search { IfOk result (λ s. s
-            ≡ begun (relations_of presentation.entry.now) sheets (from.now.sheets, from.now.cells)) }
-        ensures starts { IfOk result
-            (λ _. CanStart (relations_of presentation.entry.now) sheets (from.now.sheets, from.now.cells)) }
+        ensures search { IfOk result (λ s. s ≡ begun (relations_of presentation.entry.now) sheets (at from.now)) }
+        ensures starts { IfOk result (λ _. CanStart (relations_of presentation.entry.now) sheets (at from.now)) }
         // Want of memory may be answered to any position.
         ensures fault { IfErr result (λ fault. fault ≢ SearchFault.Memory
-            → CanStart (relations_of presentation.entry.now) sheets (from.now.sheets, from.now.cells) → ⊥) }
+            → CanStart (relations_of presentation.entry.now) sheets (at from.now) → ⊥) }
     {
         let mut course = Course::new(alloc, presentation, sheets)?;
         let columns = course.columns();
@@ -133,7 +131,7 @@ impl<'a> Search<'a> {
 
     /// The table that was found last; before the first one that of one sheet whose cells are all 1.
     pub fn table(&self) -> &Table
-        ensures table { (result.now.sheets, result.now.cells) ≡ self.now.table }
+        ensures table { shown result.now ≡ self.now.table }
         ensures columns { result.now.columns ≡ self.now.relations.generators }
     {
         &self.table
@@ -141,7 +139,7 @@ impl<'a> Search<'a> {
 
     /// The live partial table that was placed last, or the position where the search began.
     pub fn position(&self) -> &Position
-        ensures { (result.now.sheets, result.now.cells) ≡ self.now.position }
+        ensures { at result.now ≡ self.now.position }
     {
         &self.position
     }
@@ -152,11 +150,9 @@ fn set_out(course: &mut Course<'_>, position: &mut Position, from: &Position) ->
     requires begun { IsBegun course.old position.old }
     ensures same { IsAlong course.old course.new }
     ensures room { position.new.room ≡ position.old.room }
-    ensures refused { result ≡ false
-        → CanStart course.old.relations course.old.most (from.now.sheets, from.now.cells) → ⊥ }
-    ensures starts { result ≡ true
-        → CanStart course.old.relations course.old.most (from.now.sheets, from.now.cells) }
-    ensures begins { result ≡ true → BeginsAt course.new position.new (from.now.sheets, from.now.cells) }
+    ensures refused { result ≡ false → CanStart course.old.relations course.old.most (at from.now) → ⊥ }
+    ensures starts { result ≡ true → CanStart course.old.relations course.old.most (at from.now) }
+    ensures begins { result ≡ true → BeginsAt course.new position.new (at from.now) }
 {
     let sheets = from.sheets();
     if sheets == 0 {

@@ -22,8 +22,8 @@ loop-number-preserved c =
 pub cofaces_in-requires-clause-cells : goal.cofaces_in-requires-clause-cells
 cofaces_in-requires-clause-cells c = rising-names (length c.generators-most.result.now) c.args.presentation.now.relators c.loop-number.named c.loop-number.invariant.each
 
-pub returns : goal.returns
-returns c =
+pub returns-clause-index : goal.returns-clause-index
+returns-clause-index c =
     let same : length c.generators-most.result.now ≡ length c.args.presentation.now.generators = ap (λ xs. length xs) c.generators-most.ensures.generators in
     let all : length c.loop-number.named ≡ length c.args.presentation.now.relators = omega (arith, c.loop-number.invariant.long, c.loop-number-test.false, c.loop-number.auto.number-end, c.relators-number-end.ensures.count) in
     subst (λ xs. IsIndex (relations_of c.args.presentation.now) xs) (sym (c.in_ok-index.ensures ∙ ap (λ n. coface_lists n c.loop-number.named) same))

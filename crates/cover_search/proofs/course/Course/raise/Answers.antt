@@ -8,7 +8,6 @@ pub invariant_of-self : goal.invariant_of-self
 invariant_of-self c = record {
   columns = ap (λ w. w.columns) c.raise.ensures.raised ∙ c.self.invariant.columns;
   partial = c.raise.ensures.valid;
-  few = c.self.invariant.few;
   letters = c.self.invariant.letters;
   indexed = c.self.invariant.indexed;
   sound = ap (λ w. sound (relations_of c.self.inside.presentation.now) w.sheets w.cells) c.raise.ensures.raised ∙ sound-empty (relations_of c.self.inside.presentation.now) c.args.sheets;

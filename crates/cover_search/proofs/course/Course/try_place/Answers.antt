@@ -33,7 +33,6 @@ invariant_of-self c =
     record {
       columns = ap (λ v. v.columns) c.place-before.ensures.placed ∙ c.self.invariant.columns;
       partial = c.place-before.ensures.valid;
-      few = c.self.invariant.few;
       letters = c.self.invariant.letters;
       indexed = c.self.invariant.indexed;
       sound = ap (λ v. sound (relations_of c.self.inside.presentation.now) v.sheets v.cells) c.place-before.ensures.placed ∙ (sym told ∙ c.if-all_close.true);

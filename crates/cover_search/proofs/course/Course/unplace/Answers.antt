@@ -8,7 +8,6 @@ pub invariant_of-self : goal.invariant_of-self
 invariant_of-self c = record {
   columns = ap (λ w. w.columns) c.unplace.ensures.cells ∙ c.self.invariant.columns;
   partial = c.unplace.ensures.valid;
-  few = c.self.invariant.few;
   letters = c.self.invariant.letters;
   indexed = c.self.invariant.indexed;
   sound =
