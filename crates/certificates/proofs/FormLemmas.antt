@@ -1,8 +1,9 @@
 -- A line has a form of a version exactly where it is the text of that form.
-use Rattle.std.proofs.Common.{◌≡◌, ℕ, Bool, true, cond, Option, Some, None, List, refl, ◌∙◌, ap, subst}
+use Rattle.std.proofs.Common.{◌≡◌, All, ℕ, Bool, true, cond, Option, Some, None, List, refl, ◌∙◌, ap, subst}
 use Rattle.std.specs.Option.{option_and_then, option_or, option_map}
 use Rattle.std.proofs.lemmas.Option.{same_Some}
-use Rattle.certificates.specs.Parts.{parts_from}
+use Rattle.certificates.specs.Tokens.{IsProper, words_of}
+use Rattle.certificates.specs.Parts.{rest_tokens, parts_words, parts_from}
 use Rattle.certificates.specs.Plain.{Plain, plain_from, plain_of}
 use Rattle.certificates.specs.Placed.{Placed, Sheets, Cover, Spent, placed_words, placed_text, IsPlaced, placed_of}
 use Rattle.certificates.specs.Forms.{Form, plain, placed, line_text, stands, IsAnyForm, IsForm, any_form, if_stands, form_of}
@@ -10,7 +11,7 @@ use Rattle.certificates.proofs.Somes.{both_some, tested}
 use Rattle.certificates.specs.Plain.{parts}
 use Rattle.certificates.proofs.Words.{Without}
 use Rattle.certificates.proofs.PartLemmas.{kind-feedless}
-use Rattle.certificates.proofs.PlainLemmas.{plain-is, plain-back}
+use Rattle.certificates.proofs.PlainLemmas.{plain-is, plain-back, words-plain}
 use Rattle.certificates.proofs.PlacedLemmas.{line_feed, placed-is, placed-back, placed-words, plain-without, placed-without}
 
 any-is : (line : List ℕ) (f : Form) → any_form line ≡ Some f → IsAnyForm f × (line ≡ line_text f)
@@ -53,3 +54,35 @@ form-back version line f w e =
 pub feedless : (version : ℕ) (f : Form) → IsForm version f → Without 10 (line_text f)
 feedless version (plain f) w = plain-without 10 line_feed refl refl (parts f) w.form.proper (kind-feedless (parts f).kind)
 feedless version (placed f) w = placed-without f w.form
+
+-- ---- the words of a line that has a form
+
+is_plain : (line : List ℕ) (f : Plain) → any_form line ≡ Some (plain f) → plain_of line ≡ Some f
+is_plain line f h = at (plain_of line) (placed_of line) h
+  where
+    at : (a : Option Plain) (b : Option Placed) → option_or (option_map plain a) (option_map placed b) ≡ Some (plain f) → a ≡ Some f
+    at (Some g) b h = cc
+    at None (Some g) h = cc
+    at None None h = cc
+
+is_placed : (line : List ℕ) (f : Placed) → any_form line ≡ Some (placed f) → placed_of line ≡ Some f
+is_placed line f h = at (plain_of line) (placed_of line) h
+  where
+    at : (a : Option Plain) (b : Option Placed) → option_or (option_map plain a) (option_map placed b) ≡ Some (placed f) → b ≡ Some f
+    at (Some g) b h = cc
+    at None (Some g) h = cc
+    at None None h = cc
+
+formed : (version : ℕ) (line : List ℕ) (f : Form) → form_of version line ≡ Some f → any_form line ≡ Some f
+formed version line f h =
+    let q : (g : Form) × (any_form line ≡ Some g) × (if_stands version g ≡ Some f) = both_some (if_stands version) (any_form line) f h in
+    let t : (stands version q.0 ≡ true) × (Some q.0 ≡ Some f) = tested (stands version q.0) (Some q.0) f q.2 in
+    q.1 ∙ t.1
+
+pub plain-words : (version : ℕ) (line : List ℕ) (f : Plain) → form_of version line ≡ Some (plain f) → All IsProper (rest_tokens (parts f).rest) × (words_of line ≡ parts_words (parts f))
+plain-words version line f h = words-plain line f (is_plain line f (formed version line (plain f) h))
+
+pub placed-text : (version : ℕ) (line : List ℕ) (f : Placed) → form_of version line ≡ Some (placed f) → IsPlaced f × (words_of line ≡ placed_words f)
+placed-text version line f h =
+    let q : IsPlaced f × (line ≡ placed_text f) = placed-is line f (is_placed line f (formed version line (placed f) h)) in
+    (q.0, ap words_of q.1 ∙ placed-words f q.0)

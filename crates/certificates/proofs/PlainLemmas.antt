@@ -5,10 +5,11 @@ use Rattle.std.proofs.lemmas.Option.{same_Some}
 use Rattle.certificates.specs.declared.kind.Kind.{Kind}
 use Rattle.certificates.specs.declared.kind.Kind.TheVariants as kind
 use Rattle.certificates.specs.Tokens.{IsProper}
-use Rattle.certificates.specs.Parts.{Sparse, Parts, rest_tokens, parts_text, parts_of}
+use Rattle.certificates.specs.Tokens.{words_of}
+use Rattle.certificates.specs.Parts.{Sparse, Parts, rest_tokens, parts_words, parts_text, parts_of}
 use Rattle.certificates.specs.Plain.{Plain, Version, Modulus, Cells, Face, Chains, Rank, RankLine, Classes, ClassLine, Products, ProductLine, Pairs, PairLine, Critical, Components, Columns, Covers, Done, End, parts, plain_text, HasFacet, IsPlain, plain_from, plain_of}
 use Rattle.certificates.proofs.Somes.{both_some}
-use Rattle.certificates.proofs.PartLemmas.{parts-are, parts-back}
+use Rattle.certificates.proofs.PartLemmas.{parts-are, parts-back, from-is}
 
 abbrev of : Kind → List ℕ → Option (Sparse × Sparse) → Parts
 of k ns o = record { kind = k; rest = record { numbers = ns; lists = o } }
@@ -75,3 +76,11 @@ plain-back line f w e =
     ap plain_of e
     ∙ (ap (option_and_then (λ p. plain_from p.kind p.rest.lists p.rest.numbers)) (parts-back (parts f) w.proper)
     ∙ plain-from f w.facet)
+
+-- the words of a line that says something
+pub words-plain : (line : List ℕ) (f : Plain) → plain_of line ≡ Some f → All IsProper (rest_tokens (parts f).rest) × (words_of line ≡ parts_words (parts f))
+words-plain line f h =
+    let q : (p : Parts) × (parts_of line ≡ Some p) × (plain_from p.kind p.rest.lists p.rest.numbers ≡ Some f) = both_some (λ p. plain_from p.kind p.rest.lists p.rest.numbers) (parts_of line) f h in
+    let a : All IsProper (rest_tokens q.0.rest) × (words_of line ≡ parts_words q.0) = from-is (words_of line) q.0 q.1 in
+    let b : HasFacet f × (q.0 ≡ parts f) = plain-fits q.0.kind q.0.rest.lists q.0.rest.numbers f q.2 in
+    subst (λ (p : Parts). All IsProper (rest_tokens p.rest) × (words_of line ≡ parts_words p)) b.1 a

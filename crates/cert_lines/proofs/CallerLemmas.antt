@@ -1,0 +1,4 @@
+-- What other crates may cite of the proofs here.
+
+-- the numbers and the two lists of a line, by what it says
+pub use Rattle.cert_lines.proofs.WordLemmas.{numbers-told, lists-told}

@@ -1,0 +1,122 @@
+ghost use Rattle.std.specs.Prelude.{◌≡◌, ◌≤◌, ◌+◌, ◌<◌, ◌&&◌, nat_le, drop, length, IfOk, option_map, Some};
+ghost use Rattle.certificates.specs.Tokens.{words_of};
+ghost use Rattle.cert_lines.specs.Pieces.{words_left};
+ghost use Rattle.cert_lines.specs.Listed as listed;
+
+use crate::scan::cut_word;
+use crate::word::read_token;
+use certificates::Token;
+use small_field::{Entry, Sparse};
+use std::alloc::{AllocError, Global};
+
+/// The sparse list that begins so many words behind the first word of the line, counted from 0, if its
+/// positions rise from 1 to `most` and its values are from 1 to `modulus` less 1.
+pub fn entries_at(
+    alloc: Global,
+    line: &[u8],
+    place: usize,
+    modulus: u8,
+    most: u32,
+) -> Result<Option<Sparse>, AllocError>
+    ensures { IfOk result (λ list. list ≡ listed.if_entries modulus most (listed.list_in line.now place)) }
+{
+    let (_, rest) = cut_word(line);
+    read_entries(alloc, behind_words(rest, place), modulus, most)
+}
+
+/// The sparse list behind the bar of the line, under the same conditions.
+pub fn entries_behind_bar(
+    alloc: Global,
+    line: &[u8],
+    modulus: u8,
+    most: u32,
+) -> Result<Option<Sparse>, AllocError>
+    ensures { IfOk result (λ list. list ≡ listed.if_entries modulus most (listed.list_behind line.now)) }
+{
+    let (_, rest) = cut_word(line);
+    read_entries(alloc, behind_bar(rest), modulus, most)
+}
+
+/// What stands behind so many words.
+fn behind_words(words: Option<&[u8]>, count: usize) -> Option<&[u8]>
+    ensures { words_left (option_map (λ s. s.now) result)
+        ≡ drop count (words_left (option_map (λ s. s.now) words.entry)) }
+{
+    let mut left = count;
+    let mut rest = words;
+    'words: while let Some(text) = rest {
+        if left == 0 {
+            return Some(text);
+        }
+        let (_, more) = cut_word(text);
+        left -= 1;
+        rest = more;
+    }
+    None
+}
+
+fn is_bar(word: &[u8]) -> bool
+    ensures { result ≡ listed.is_bar word.now }
+{
+    matches!(read_token(word), Some(Token::Bar))
+}
+
+/// The words behind the bar.
+fn behind_bar(words: Option<&[u8]>) -> Option<&[u8]>
+    ensures { words_left (option_map (λ s. s.now) result)
+        ≡ listed.behind_bar (words_left (option_map (λ s. s.now) words.entry)) }
+{
+    let mut rest = words;
+    'words: while let Some(text) = rest {
+        let (word, more) = cut_word(text);
+        if is_bar(word) {
+            return more;
+        }
+        rest = more;
+    }
+    None
+}
+
+/// The entries that stand first, if they are in range.
+fn read_entries(
+    alloc: Global,
+    words: Option<&[u8]>,
+    modulus: u8,
+    most: u32,
+) -> Result<Option<Sparse>, AllocError>
+    ensures { IfOk result (λ list. list ≡ listed.if_entries modulus most
+        (listed.entries_of (words_left (option_map (λ s. s.now) words.entry)))) }
+{
+    let mut entries = Sparse::new(alloc);
+    let mut last: u32 = 0;
+    let mut rest = words;
+    'words: while let Some(text) = rest {
+        let (word, more) = cut_word(text);
+        match read_token(word) {
+            Some(Token::Entry(position, value)) => {
+                if !is_next(last, most, modulus, position, value) {
+                    return Ok(None);
+                }
+                entries.push(Entry {
+                    position: position as u32,
+                    value: value as u8,
+                })?;
+                last = position as u32;
+            }
+            _ => return Ok(Some(entries)),
+        }
+        rest = more;
+    }
+    Ok(Some(entries))
+}
+
+/// Whether the position is behind the last one and in range, and the value is.
+fn is_next(last: u32, most: u32, modulus: u8, position: u64, value: u64) -> bool
+    ensures { result ≡ (nat_le (last + 1) position && nat_le position most)
+        && (nat_le 1 value && nat_le (value + 1) modulus) }
+{
+    u64::from(last) < position
+        && position <= u64::from(most)
+        && 1 <= value
+        && value < u64::from(modulus)
+}
