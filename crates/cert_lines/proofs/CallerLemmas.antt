@@ -1,4 +1,6 @@
 -- What other crates may cite of the proofs here.
 
 -- the numbers and the two lists of a line, by what it says
-pub use Rattle.cert_lines.proofs.WordLemmas.{numbers-told, lists-told}
+pub use Rattle.cert_lines.proofs.WordLemmas.{numbers-told, lists-told, numbers-rest}
+-- a text cut at the first such byte, and one without it
+pub use Rattle.cert_lines.proofs.CutLemmas.{IsCut, cut-none, cut-some}

@@ -105,3 +105,12 @@ lists-told v line f s h hs =
       ap (λ (ws : List (List ℕ)). entries_of (drop (length (parts f).rest.numbers) (behind_first ws))) w.1 ∙ b.0,
       ap (λ (ws : List (List ℕ)). entries_of (behind_bar (behind_first ws))) w.1 ∙ b.1,
     )
+
+-- the numbers behind the first one
+put_first : (o : Option ℕ) (ws : List (List ℕ)) (n : ℕ) (ns : List ℕ) → put o (numbers_of ws) ≡ n ∷ ns → numbers_of ws ≡ ns
+put_first None ws n ns h = cc
+put_first (Some m) ws n ns h = cc
+
+pub numbers-rest : (ws : List (List ℕ)) (n : ℕ) (ns : List ℕ) → numbers_of ws ≡ n ∷ ns → numbers_of (drop 1 ws) ≡ ns
+numbers-rest [] n ns h = cc
+numbers-rest (w ∷ ws) n ns h = put_first (number_of w) ws n ns h

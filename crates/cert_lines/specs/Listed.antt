@@ -1,10 +1,12 @@
 -- The numbers and the two sparse lists of a line, by its words.
 --   numbers_in line       the numbers that stand first behind the first word
+--   numbers_behind line place  the same, so many words behind the first
+--   if_rising most ns     the numbers, if they rise from 1 to the most
 --   list_in line place    the entries that stand first, so many words behind the first
 --   list_behind line      the entries that stand first behind the bar
 --   if_entries m most es  the entries, if their positions rise from 1 to the most and their values are from 1 to m - 1
--- and as steps of these: numbers_of, put, words_behind, is_bar, behind_bar, put_entry, entries_of
-use Rattle.std.specs.Prelude.{ℕ, ◌==◌, List, [], ◌∷◌, drop, Bool, true, false, Option, Some, None, if◌then◌else◌}
+-- and as steps of these: rise_from, numbers_of, put, words_behind, is_bar, behind_bar, put_entry, entries_of
+use Rattle.std.specs.Prelude.{ℕ, ◌==◌, List, [], ◌∷◌, drop, Bool, true, false, ◌&&◌, nat_lt, nat_le, Option, Some, None, if◌then◌else◌}
 use Rattle.certificates.specs.declared.token.Token.{Token}
 use Rattle.certificates.specs.declared.token.Token.TheVariants.{Entry, Bar}
 use Rattle.certificates.specs.Numbers.{number_of}
@@ -30,6 +32,17 @@ words_behind line = behind_first (words_of line)
 
 abbrev pub numbers_in : (line : List ℕ) → List ℕ
 numbers_in line = numbers_of (words_behind line)
+
+abbrev pub numbers_behind : (line : List ℕ) → (place : ℕ) → List ℕ
+numbers_behind line place = numbers_of (drop place (words_behind line))
+
+-- numbers that rise, after the last one and up to the most
+abbrev pub rise_from : (last most : ℕ) → List ℕ → Bool
+rise_from last most [] = true
+rise_from last most (n ∷ ns) = (nat_lt last n && nat_le n most) && rise_from n most ns
+
+abbrev pub if_rising : (most : ℕ) → List ℕ → Option (List ℕ)
+if_rising most ns = if rise_from 0 most ns then Some ns else None
 
 abbrev pub is_bar_token : Option Token → Bool
 is_bar_token (Some Bar) = true

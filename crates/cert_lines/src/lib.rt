@@ -15,4 +15,4 @@ mod word;
 
 pub use kind::LineKind;
 pub use line::{line_kind, number_at};
-pub use lists::{entries_at, entries_behind_bar};
+pub use lists::{entries_at, entries_behind_bar, rising_at};

@@ -1,10 +1,10 @@
-ghost use Rattle.std.specs.Prelude.{◌≡◌, ◌≤◌, ◌+◌, ◌<◌, ◌&&◌, nat_le, drop, length, IfOk, option_map, Some};
+ghost use Rattle.std.specs.Prelude.{◌≡◌, ◌≤◌, ◌+◌, ◌<◌, ◌&&◌, nat_le, nat_lt, drop, length, IfOk, option_map, Some};
 ghost use Rattle.certificates.specs.Tokens.{words_of};
 ghost use Rattle.cert_lines.specs.Pieces.{words_left};
 ghost use Rattle.cert_lines.specs.Listed as listed;
 
 use crate::scan::cut_word;
-use crate::word::read_token;
+use crate::word::{read_number, read_token};
 use certificates::Token;
 use small_field::{Entry, Sparse};
 use std::alloc::{AllocError, Global};
@@ -35,6 +35,21 @@ pub fn entries_behind_bar(
 {
     let (_, rest) = cut_word(line);
     read_entries(alloc, behind_bar(rest), modulus, most)
+}
+
+/// The numbers that stand so many words behind the first word of the line, counted from 0, if they rise
+/// from 1 to `most`.
+pub fn rising_at(
+    alloc: Global,
+    line: &[u8],
+    place: usize,
+    most: u32,
+) -> Result<Option<Vec<u32>>, AllocError>
+    ensures { IfOk result (λ numbers. option_map (λ v. v.items) numbers
+        ≡ listed.if_rising most (listed.numbers_behind line.now place)) }
+{
+    let (_, rest) = cut_word(line);
+    read_rising(alloc, behind_words(rest, place), most)
 }
 
 /// What stands behind so many words.
@@ -87,7 +102,7 @@ fn read_entries(
     ensures { IfOk result (λ list. list ≡ listed.if_entries modulus most
         (listed.entries_of (words_left (option_map (λ s. s.now) words.entry)))) }
 {
-    let mut entries = Sparse::new(alloc);
+    let mut entries = Sparse::with_room(alloc, count_entries(words, most))?;
     let mut last: u32 = 0;
     let mut rest = words;
     'words: while let Some(text) = rest {
@@ -108,6 +123,57 @@ fn read_entries(
         rest = more;
     }
     Ok(Some(entries))
+}
+
+/// How many entries stand first, up to `most`.
+fn count_entries(words: Option<&[u8]>, most: u32) -> u32
+    ensures { result ≤ most }
+{
+    let mut count: u32 = 0;
+    let mut rest = words;
+    'words: while let Some(text) = rest {
+        if count == most {
+            return count;
+        }
+        let (word, more) = cut_word(text);
+        match read_token(word) {
+            Some(Token::Entry(..)) => count += 1,
+            _ => return count,
+        }
+        rest = more;
+    }
+    count
+}
+
+/// The numbers that stand first, if they rise from 1 to `most`.
+fn read_rising(alloc: Global, words: Option<&[u8]>, most: u32) -> Result<Option<Vec<u32>>, AllocError>
+    ensures { IfOk result (λ numbers. option_map (λ v. v.items) numbers ≡ listed.if_rising most
+        (listed.numbers_of (words_left (option_map (λ s. s.now) words.entry)))) }
+{
+    let mut numbers = Vec::new(alloc);
+    let mut last: u32 = 0;
+    let mut rest = words;
+    'words: while let Some(text) = rest {
+        let (word, more) = cut_word(text);
+        match read_number(word) {
+            Some(number) => {
+                if !is_above(last, most, number) {
+                    return Ok(None);
+                }
+                numbers.push(number as u32)?;
+                last = number as u32;
+            }
+            None => return Ok(Some(numbers)),
+        }
+        rest = more;
+    }
+    Ok(Some(numbers))
+}
+
+fn is_above(last: u32, most: u32, number: u64) -> bool
+    ensures { result ≡ nat_lt last number && nat_le number most }
+{
+    u64::from(last) < number && number <= u64::from(most)
 }
 
 /// Whether the position is behind the last one and in range, and the value is.

@@ -3,11 +3,17 @@ mod CoverReaders
 mod Equivalents
 mod Examples
 mod HomologyReaders
+mod LayerLemmas
+mod LineLemmas
 mod ListingReaders
+mod Locals
+mod Loops
 mod Passing
 mod Picked
+mod SideLemmas
 mod SpaceReaders
 mod TableRows
+mod TakingLemmas
 mod Tests
 mod WellCovers
 mod WellSpaces

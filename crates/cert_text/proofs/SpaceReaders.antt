@@ -12,9 +12,10 @@ use Rattle.order_complex.specs.Counting.{chain_counts}
 use Rattle.certificates.specs.Plain as p
 use Rattle.certificates.specs.Forms.{Form, plain, IsForm}
 use Rattle.certificates.specs.Texts.{four, face_lines}
+use Rattle.cert_lines.specs.Listed.{rise_from}
 use Rattle.cert_text.specs.Readers.{Left, Answer, and_then, take_line, many}
 use Rattle.cert_text.specs.Picks.{pick_cells, pick_face, pick_chains}
-use Rattle.cert_text.specs.Reading.{rise_from, face_fits, read_face, cells_fit, read_faces, read_space, chains_fit, read_chains}
+use Rattle.cert_text.specs.Reading.{face_fits, read_face, cells_fit, read_faces, read_space, chains_fit, read_chains}
 use Rattle.cert_text.proofs.Passing.{and-parts, and-both}
 use Rattle.cert_text.proofs.Equivalents.{IsReader, one-line, taken-line, recast, bind, mapped, HasMany, many-lines}
 use Rattle.cert_text.proofs.Picked.{cells-picked, face-picked, chains-picked}
@@ -42,7 +43,7 @@ four-is (a ∷ b ∷ c ∷ d ∷ z ∷ zs) e = absurd (omega (arith, e))
 abbrev pub FaceFits : (below : ℕ) → List ℕ → Type 0
 FaceFits below facets = (rise_from 0 below facets ≡ true) × (1 ≤ length facets)
 
-some_facet : (v : ℕ) (f : Form) (x : ℕ × List ℕ) → pick_face f ≡ Some x → IsForm v f → 1 ≤ length x.1
+pub some_facet : (v : ℕ) (f : Form) (x : ℕ × List ℕ) → pick_face f ≡ Some x → IsForm v f → 1 ≤ length x.1
 some_facet v (plain (p.Face k facets)) x h form = subst (λ (y : ℕ × List ℕ). 1 ≤ length y.1) (same_Some (k, facets) x h) form.form.facet
 some_facet v f x h form = cc
 

@@ -6,7 +6,7 @@ use Rattle.std.proofs.lemmas.Bool.{leb-true, le-leb, ltb-true, lt-ltb}
 use Rattle.std.proofs.lemmas.List.Elements.{All-nil, All-cons, All-head, All-tail, All-weaker, All-replicate}
 use Rattle.number_lists.proofs.CallerLemmas.{increasing_head, increasing_tail}
 use Rattle.face_poset.specs.Poset.{Layers, layer, count, cell_count, IsCell, IsSpace, IsLimited}
-use Rattle.cert_text.specs.Reading.{rise_from}
+use Rattle.cert_lines.specs.Listed.{rise_from}
 use Rattle.cert_text.proofs.Passing.{and-parts, and-both}
 use Rattle.cert_text.proofs.SpaceReaders.{FaceFits, SpaceFits}
 
@@ -51,7 +51,7 @@ rise-back last below (f ∷ fs) h r =
         let up : f < x = All-head (λ y. f < y) x xs a in
         All-cons (IsBetween f below) x xs (omega (arith, up), (All-head (IsBetween last below) x xs t).1) (both xs (All-tail (λ y. f < y) x xs a) (All-tail (IsBetween last below) x xs t))
 
-cell-there : (below : ℕ) (fs : List ℕ) → FaceFits below fs → IsCell below fs
+pub cell-there : (below : ℕ) (fs : List ℕ) → FaceFits below fs → IsCell below fs
 cell-there below fs h =
     let p = rise-parts 0 below fs h.0 in
     record { rises = p.1; within = All-weaker (IsBetween 0 below) (λ f. (1 ≤ f) × (f ≤ below)) (λ x k. (omega (arith, k.0), k.1)) fs p.0; some = h.1 }

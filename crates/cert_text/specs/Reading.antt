@@ -9,7 +9,7 @@
 --   read_critical, read_columns, read_sheets   in it, the critical cells, the columns, the most sheets and the start
 --   read_listing            the covers, section by section, and how the search ended; listing_from line by line
 --   nothing_left            nothing follows
-use Rattle.std.specs.Prelude.{ℕ, zero, suc, ◌+◌, ◌-◌, ◌==◌, nat_le, nat_lt, List, [], ◌∷◌, length, replicate, sum, Bool, true, false, not, ◌&&◌, ◌||◌, if◌then◌else◌, Option, Some, None, Result, Ok, Err, slice_index_or, bytes_eq}
+use Rattle.std.specs.Prelude.{ℕ, zero, suc, ◌+◌, ◌-◌, ◌==◌, nat_le, List, [], ◌∷◌, length, replicate, sum, Bool, true, false, not, ◌&&◌, ◌||◌, if◌then◌else◌, Option, Some, None, Result, Ok, Err, slice_index_or, bytes_eq}
 use Rattle.std.specs.List.{list_all, concat}
 use Rattle.small_field.specs.Modulus.{is_modulus}
 use Rattle.face_poset.specs.Poset.{Layers, count}
@@ -27,6 +27,7 @@ use Rattle.certificates.specs.Cert.{CoverTable, CoverSection, CertCover, Cert}
 use Rattle.certificates.specs.WellFormed.{are_entries, is_between, product_order, paired, columns_of, spot_fits, component_of}
 use Rattle.cert_text.specs.declared.fault.CertFault.{CertFault}
 use Rattle.cert_text.specs.declared.fault.CertFault.TheVariants.{BadLine, WrongOrder, OutOfRange, Ends, BadVersion}
+use Rattle.cert_lines.specs.Listed.{rise_from}
 use Rattle.cert_text.specs.Readers.{Left, Answer, pieces_of, and_then, next_form, take_line, many, each}
 use Rattle.cert_text.specs.Picks as k
 use Rattle.cert_text.specs.Picks.{Listing, a_table, a_section, an_ending, pick_listing}
@@ -42,11 +43,6 @@ read_version left = and_then (next_form 2 left) (λ a. versioned left.number a.0
 
 abbrev pub read_modulus : (v : ℕ) → Left → Answer ℕ
 read_modulus v left = take_line v k.pick_modulus is_modulus left
-
--- numbers that rise, after the last one and up to the last cell
-abbrev pub rise_from : (last below : ℕ) → List ℕ → Bool
-rise_from last below [] = true
-rise_from last below (f ∷ fs) = (nat_lt last f && nat_le f below) && rise_from f below fs
 
 abbrev pub face_fits : (dim below : ℕ) → ℕ × List ℕ → Bool
 face_fits dim below face = (face.0 == dim) && rise_from 0 below face.1

@@ -5,7 +5,11 @@
 #![tactic(auto)]
 
 mod fault;
+mod front;
+mod homology;
 mod laws;
+mod lines;
+mod space;
 
 pub use certificates::{
     Certificate, CoverLine, CoverLines, CoverPart, Ending, Line, LinesByDegree, Numbers, PairLine,
