@@ -2,10 +2,12 @@ mod CertReaders
 mod CoverReaders
 mod Equivalents
 mod Examples
+mod Final
 mod HomologyReaders
 mod LayerLemmas
 mod LineLemmas
 mod ListingReaders
+mod LocalReaders
 mod Locals
 mod Loops
 mod Passing

@@ -29,7 +29,7 @@ pub record IsLocal {A : Type 0} (read : Left → Answer A) : Type 0 where
   pub late : (n : ℕ) (l : Left) (f : CertFault) → read l ≡ Err f → line_of f ≡ Some n → l.number ≤ n
   pub later : (l o : Left) (x : A) → read l ≡ Ok (x, o) → l.number ≤ o.number
 
-same_Err : {A : Type 0} (f g : CertFault) → ◌≡◌ {A = Result A CertFault} (Err f) (Err g) → f ≡ g
+pub same_Err : {A : Type 0} (f g : CertFault) → ◌≡◌ {A = Result A CertFault} (Err f) (Err g) → f ≡ g
 same_Err f g e = cc
 
 -- ---- nothing, and one reader after another
@@ -44,7 +44,7 @@ local-return {A} x = record {
   later = λ l o y e. let s = ap (λ (q : A × Left). q.1.number) (same_Ok (x, l) (y, o) e) in omega (arith, s);
 }
 
-either : {A B : Type 0} (r : Result A CertFault) (go : A → Result B CertFault) (f : CertFault) → and_then r go ≡ Err f → (r ≡ Err f) ⊎ ((a : A) × (r ≡ Ok a) × (go a ≡ Err f))
+pub either : {A B : Type 0} (r : Result A CertFault) (go : A → Result B CertFault) (f : CertFault) → and_then r go ≡ Err f → (r ≡ Err f) ⊎ ((a : A) × (r ≡ Ok a) × (go a ≡ Err f))
 either (Ok a) go f h = inr (a, refl, h)
 either (Err g) go f h = inl (ap (λ (x : CertFault). Err x) (same_Err g f h))
 
@@ -124,7 +124,7 @@ next_fails v n k (w ∷ ws) tail other f more also to e line =
     two_pieces v k w (ws ++ other) (both_more ws other also)
     ∙ same_fault k (behind k (ws ++ tail)) (behind k (ws ++ other)) (form_of v w) f (sym (two_pieces v k w (ws ++ tail) (both_more ws tail more)) ∙ e)
 
-form_number : (v k : ℕ) (pieces : List (List ℕ)) (o : Left) (x : Form) → form_at v k pieces ≡ Ok (x, o) → o.number ≡ k + 1
+pub form_number : (v k : ℕ) (pieces : List (List ℕ)) (o : Left) (x : Form) → form_at v k pieces ≡ Ok (x, o) → o.number ≡ k + 1
 form_number v k [] o x e = cc
 form_number v k (w ∷ []) o x e = at (eqb (length w) 0) e
   where

@@ -17,4 +17,4 @@ pub use certificates::{
     write_cover, write_front, write_section,
 };
 pub use fault::CertFault;
-pub use laws::{only_texts_are_read, texts_are_one, texts_are_read};
+pub use laws::{faults_are_final, only_texts_are_read, texts_are_one, texts_are_read};
