@@ -17,9 +17,8 @@ use Rattle.certificates.proofs.CallerLemmas.{bytes-same, kind-is}
 use Rattle.cert_lines.specs.declared.kind.LineKind.{LineKind}
 use Rattle.cert_lines.specs.declared.kind.LineKind.TheVariants as line_kind
 use Rattle.cert_lines.specs.declared.shape.Stage.TheVariants as stage
-use Rattle.cert_lines.specs.Pieces.{words_left}
 use Rattle.cert_lines.specs.Shapes.{shape_from, fits}
-use Rattle.cert_lines.specs.Kinds.{placed_kind, kind_of, kind_stands, plain_stands, spot_in, spot_stands, spent_stands, cover_stands, sheets_stands, placed_stands}
+use Rattle.cert_lines.specs.Kinds.{kind_of, kind_stands, plain_stands, spot_in, spent_stands, cover_stands, sheets_stands, placed_stands}
 use Rattle.cert_lines.proofs.ShapeLemmas.{shape_in, shape, shape-tokens, at_numbers}
 
 -- ---- plain lines
@@ -231,8 +230,8 @@ placed-at v w ws = at (bytes_eq w (codes "spent")) refl (bytes_eq w (codes "cove
 pub placed-told : (v : ℕ) (line word : List ℕ) (ws : List (List ℕ)) → words_of line ≡ word ∷ ws → kind_of_word word ≡ None → placed_stands v word ws ≡ option_map kind_of (form_of v line)
 placed-told v line word ws e ek =
     let none : plain_of line ≡ None =
-        ap (λ (vs : List (List ℕ)). option_and_then form_in (parts_from vs)) e
-        ∙ ap (λ (o : Option Kind). option_and_then form_in (option_and_then (λ k. option_and_then (λ ts. option_and_then (with k) (rest_of ts)) (tokens_of ws)) o)) ek in
+    ap (λ (vs : List (List ℕ)). option_and_then form_in (parts_from vs)) e
+    ∙ ap (λ (o : Option Kind). option_and_then form_in (option_and_then (λ k. option_and_then (λ ts. option_and_then (with k) (rest_of ts)) (tokens_of ws)) o)) ek in
     placed-at v word ws
     ∙ (ap (λ (vs : List (List ℕ)). placed_in v (placed_from vs)) (sym e)
     ∙ sym (ap (λ (o : Option Plain). told v o (placed_of line)) none))

@@ -1,12 +1,9 @@
 -- The words behind the first of a line with a spot or a table.
-use Rattle.std.proofs.Common.{◌≡◌, ◌≤◌, ◌∷◌, [], ℕ, Bool, false, ◌&&◌, eqb, Option, Some, None, Bor, is_some, option_map, List, length, sym, ◌∙◌, ap, arith, bytes_eq, codes, refl}
+use Rattle.std.proofs.Common.{◌≡◌, ◌≤◌, ◌∷◌, [], ℕ, false, eqb, List, length, arith, refl}
 use Rattle.std.specs.List.{slice_split}
 use Rattle.std.proofs.lemmas.List.Splits.{length-slice_split}
-use Rattle.certificates.specs.Numbers.{number_of}
-use Rattle.certificates.specs.Placed.{table_of}
 use Rattle.certificates.specs.Tokens.{words_of}
-use Rattle.cert_lines.specs.Pieces.{words_left}
-use Rattle.cert_lines.specs.Kinds.{spot_stands, spent_stands, cover_stands, sheets_stands}
+use Rattle.cert_lines.specs.Kinds.{spent_stands, cover_stands, sheets_stands}
 
 spent_long : (v : ℕ) (w : List ℕ) (ws : List (List ℕ)) → 1 ≤ length ws → false ≡ spent_stands v (w ∷ ws)
 spent_long v w [] l = absurd (omega arith)

@@ -1,8 +1,8 @@
 -- A spot by the pieces of its text, and a component by the number that its word is.
-use Rattle.std.proofs.Common.{◌≡◌, ◌≢◌, ◌≤◌, ◌<◌, ◌+◌, ◌*◌, ◌-◌, ◌∷◌, [], ℕ, Bool, true, false, cond, not, ◌&&◌, eqb, leb, Option, Some, None, is_some, option_map, List, length, refl, sym, ◌∙◌, ap, arith, subst, bytes_eq}
+use Rattle.std.proofs.Common.{◌≡◌, ◌≢◌, ◌≤◌, ◌+◌, ◌*◌, ◌-◌, ◌∷◌, [], ℕ, Bool, true, false, cond, not, ◌&&◌, eqb, leb, Option, Some, None, is_some, option_map, List, length, refl, sym, ◌∙◌, ap, arith, bytes_eq}
 use Rattle.std.specs.Option.{option_and_then}
 use Rattle.std.specs.List.{slice_split, onto_first, join_with_byte, list_all}
-use Rattle.std.proofs.lemmas.Bool.{leb-true, le-leb, eq-eqb, eqb-false, false≢true, ne_eqb}
+use Rattle.std.proofs.lemmas.Bool.{leb-true, le-leb, eqb-false, ne_eqb}
 use Rattle.std.proofs.lemmas.List.Splits.{join_with_byte-slice_split, length-slice_split}
 use Rattle.sheet_tables.specs.Positions.{position_from}
 use Rattle.sheet_tables.specs.Spots.{is_digit, digits_after, component_from, at_slash, in_component, parts_from, spot_from}
@@ -113,12 +113,12 @@ led b (c ∷ cs) d r = at (eqb b 48) refl
     at : (t : Bool) → eqb b 48 ≡ t → (not t && list_all is_decimal_digit (b ∷ c ∷ cs)) ≡ (leb 1 (length (b ∷ c ∷ cs)) && leb (length (b ∷ c ∷ cs)) 10 && not t && list_all is_decimal_digit (b ∷ c ∷ cs))
     at true e = nothing (leb 1 (length (b ∷ c ∷ cs)) && leb (length (b ∷ c ∷ cs)) 10) (list_all is_decimal_digit (b ∷ c ∷ cs))
     at false e = ap (λ x. x && list_all is_decimal_digit (b ∷ c ∷ cs)) (
-      let digit = and_parts (leb 48 b) (leb b 57) (and_parts (is_decimal_digit b) (list_all is_decimal_digit (c ∷ cs)) d).0 in
-      let most = leb-true (number_from 0 (b ∷ c ∷ cs)) 60000 (and_parts (leb 2 (number_from 0 (b ∷ c ∷ cs))) (leb (number_from 0 (b ∷ c ∷ cs)) 60000) r).1 in
-      let not_48 : b ≢ 48 = eqb-false b 48 e in
-      let low : 48 ≤ b = leb-true 48 b digit.0 in
-      let short : length (c ∷ cs) ≤ 4 = few (10 * 0 + (b - 48)) (c ∷ cs) (omega (arith, low, not_48)) most in
-      both_true (leb 1 (length (b ∷ c ∷ cs))) (leb (length (b ∷ c ∷ cs)) 10) (le-leb 1 (length (b ∷ c ∷ cs)) (omega arith)) (le-leb (length (b ∷ c ∷ cs)) 10 (omega (arith, short))))
+        let digit = and_parts (leb 48 b) (leb b 57) (and_parts (is_decimal_digit b) (list_all is_decimal_digit (c ∷ cs)) d).0 in
+        let most = leb-true (number_from 0 (b ∷ c ∷ cs)) 60000 (and_parts (leb 2 (number_from 0 (b ∷ c ∷ cs))) (leb (number_from 0 (b ∷ c ∷ cs)) 60000) r).1 in
+        let not_48 : b ≢ 48 = eqb-false b 48 e in
+        let low : 48 ≤ b = leb-true 48 b digit.0 in
+        let short : length (c ∷ cs) ≤ 4 = few (10 * 0 + (b - 48)) (c ∷ cs) (omega (arith, low, not_48)) most in
+        both_true (leb 1 (length (b ∷ c ∷ cs))) (leb (length (b ∷ c ∷ cs)) 10) (le-leb 1 (length (b ∷ c ∷ cs)) (omega arith)) (le-leb (length (b ∷ c ∷ cs)) 10 (omega (arith, short))))
 
 undigited : (x d y : Bool) → d ≡ false → (x && d) ≡ (y && d)
 undigited true d true e = refl

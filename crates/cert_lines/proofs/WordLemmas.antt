@@ -1,18 +1,16 @@
 -- The numbers and the lists of a line by its words are those of what it says.
 use Rattle.std.proofs.Common.{◌≡◌, ◌++◌, ◌∷◌, [], ℕ, Bool, cond, Option, Some, None, List, map, length, drop, refl, subst, sym, ◌∙◌, ap, All, decimal}
-use Rattle.std.specs.Option.{option_map, option_or}
-use Rattle.std.proofs.lemmas.Option.{same_Some}
-use Rattle.std.proofs.lemmas.List.{append-nil, length-map}
+use Rattle.std.proofs.lemmas.List.{append-nil}
 use Rattle.std.proofs.lemmas.List.Elements.{All-head, All-tail}
 use Rattle.certificates.specs.declared.token.Token.{Token}
 use Rattle.certificates.specs.declared.token.Token.TheVariants.{Number, Bar}
 use Rattle.certificates.specs.Tokens.{token_text, IsProper, words_of}
 use Rattle.certificates.specs.Numbers.{number_of}
-use Rattle.certificates.specs.Parts.{Sparse, Rest, Parts, entry, sparse_tokens, lists_tokens, rest_tokens, parts_words}
+use Rattle.certificates.specs.Parts.{Sparse, entry, sparse_tokens, lists_tokens, rest_tokens, parts_words}
 use Rattle.certificates.specs.Plain.{Plain, parts}
 use Rattle.certificates.specs.Forms.{plain, form_of}
 use Rattle.certificates.proofs.CallerLemmas.{plain-words, number-back, token-back}
-use Rattle.cert_lines.specs.Listed.{put, numbers_of, behind_first, words_behind, numbers_in, is_bar_token, behind_bar, put_entry, entries_of, list_in, list_behind}
+use Rattle.cert_lines.specs.Listed.{put, numbers_of, behind_first, numbers_in, is_bar_token, behind_bar, put_entry, entries_of, list_in, list_behind}
 use Rattle.cert_lines.proofs.Digits.{colon-no_number}
 
 abbrev texts : List Token → List (List ℕ)

@@ -2,7 +2,8 @@
 --   kind_of form                the kind of a form
 --   kind_stands version kind    the version has plain lines of this kind
 --   spot_stands version word    the word is `-` or the text of a spot, in version 1 of one in component 1
---   plain_stands version kind shape                          the kind of a plain line with this shape, if the version has it
+--   plain_stands version kind shape
+--                               the kind of a plain line with this shape, if the version has it
 --   spent_stands, cover_stands, sheets_stands version words  what stands behind the first word of such a line
 -- and as steps of these
 --   placed_stands version word words   the kind of a line of these three with this first word and these words behind it

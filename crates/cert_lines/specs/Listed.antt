@@ -6,7 +6,7 @@
 --   list_behind line      the entries that stand first behind the bar
 --   if_entries m most es  the entries, if their positions rise from 1 to the most and their values are from 1 to m - 1
 -- and as steps of these: rise_from, numbers_of, put, words_behind, is_bar, behind_bar, put_entry, entries_of
-use Rattle.std.specs.Prelude.{ℕ, ◌==◌, List, [], ◌∷◌, drop, Bool, true, false, ◌&&◌, nat_lt, nat_le, Option, Some, None, if◌then◌else◌}
+use Rattle.std.specs.Prelude.{ℕ, List, [], ◌∷◌, drop, Bool, true, false, ◌&&◌, nat_lt, nat_le, Option, Some, None, if◌then◌else◌}
 use Rattle.certificates.specs.declared.token.Token.{Token}
 use Rattle.certificates.specs.declared.token.Token.TheVariants.{Entry, Bar}
 use Rattle.certificates.specs.Numbers.{number_of}

@@ -35,7 +35,8 @@ shape_at s n = None
 
 abbrev pub shape_from : Stage → ℕ → List (List ℕ) → Option (ℕ × Bool)
 shape_from s n [] = shape_at s n
-shape_from s n (w ∷ ws) = option_and_then (λ t. option_and_then (λ u. shape_from u (count_after n t) ws) (stage_after s t)) (token_of w)
+shape_from s n (w ∷ ws) =
+    option_and_then (λ t. option_and_then (λ u. shape_from u (count_after n t) ws) (stage_after s t)) (token_of w)
 
 abbrev pub fits : Kind → ℕ → Bool → Bool
 fits kind.Version n lists = not lists && (n == 1)

@@ -1,8 +1,8 @@
 //! The lines of a certificate, read one by one.
 //!
 //! [`line_kind`] tells which line it is, if it has a form of the version, and takes no memory. Of a line
-//! that has a form, [`number_at`], [`entries_at`] and [`entries_behind_bar`] read the numbers and the
-//! sparse lists, [`spot_at`] a spot and [`cells_at`] the cells of a table.
+//! that has a form, [`number_at`] reads a number, [`rising_at`] numbers that rise, and [`entries_at`] and
+//! [`entries_behind_bar`] the two sparse lists, each with its range.
 #![tactic(auto)]
 
 mod kind;

@@ -146,7 +146,11 @@ fn count_entries(words: Option<&[u8]>, most: u32) -> u32
 }
 
 /// The numbers that stand first, if they rise from 1 to `most`.
-fn read_rising(alloc: Global, words: Option<&[u8]>, most: u32) -> Result<Option<Vec<u32>>, AllocError>
+fn read_rising(
+    alloc: Global,
+    words: Option<&[u8]>,
+    most: u32,
+) -> Result<Option<Vec<u32>>, AllocError>
     ensures { IfOk result (λ numbers. option_map (λ v. v.items) numbers ≡ listed.if_rising most
         (listed.numbers_of (words_left (option_map (λ s. s.now) words.entry)))) }
 {

@@ -1,5 +1,5 @@
 -- A fault at a line that has a line feed stays, whatever follows.
-use Rattle.std.proofs.Common.{◌≡◌, ◌≢◌, ◌≤◌, ◌<◌, ◌+◌, ◌-◌, ◌++◌, ◌∷◌, [], ◌⊎◌, inl, inr, ℕ, zero, suc, Bool, true, false, cond, eqb, Option, Some, None, List, length, take, drop, refl, sym, ◌∙◌, ap, arith, Result, Ok, Err, All}
+use Rattle.std.proofs.Common.{◌≡◌, ◌<◌, ◌++◌, ◌∷◌, [], ◌⊎◌, inl, inr, ℕ, Bool, true, false, cond, eqb, Option, Some, None, List, length, take, drop, refl, sym, ◌∙◌, ap, arith, Result, Ok, Err, All}
 use Rattle.std.specs.List.{slice_split, onto_first, flat_map}
 use Rattle.std.proofs.lemmas.Bool.{eq-eqb}
 use Rattle.std.proofs.lemmas.Option.{same_Some}
@@ -8,14 +8,12 @@ use Rattle.std.proofs.lemmas.List.Splits.{slice_split_at, length-slice_split}
 use Rattle.std.proofs.lemmas.List.Elements.{All-nil, All-cons, All-head, All-tail, All-take}
 use Rattle.certificates.specs.Forms.{Form}
 use Rattle.certificates.specs.Cert.{Cert}
-use Rattle.certificates.specs.Texts.{cert_text}
-use Rattle.certificates.specs.WellFormed.{IsWellFormed}
 use Rattle.cert_text.specs.declared.fault.CertFault.{CertFault}
 use Rattle.cert_text.specs.declared.fault.CertFault.TheVariants.{WrongOrder, Ends}
 use Rattle.cert_text.specs.Readers.{Left, Answer, pieces_of, and_then, next_form}
-use Rattle.cert_text.specs.Reading.{read_version, read_body, over, nothing_left, start, certificate_of}
+use Rattle.cert_text.specs.Reading.{read_body, over, nothing_left, start, certificate_of}
 use Rattle.cert_text.specs.Laws.{TextsAreRead, line_of, lines_to, FaultsAreFinal}
-use Rattle.cert_text.proofs.Equivalents.{both_ok, then_ok}
+use Rattle.cert_text.proofs.Equivalents.{then_ok}
 use Rattle.cert_text.proofs.TakingLemmas.{then_err}
 use Rattle.cert_text.proofs.Locals.{Agree, IsLocal, same_Err, either, local-then, local-next, err-line, form_number}
 use Rattle.cert_text.proofs.LocalReaders.{version_read, local-version, local-map, local-body}

@@ -1,14 +1,14 @@
 -- Layers that are filled one after another, and the lines of their faces.
-use Rattle.std.proofs.Common.{◌≡◌, ◌≢◌, ◌≤◌, ◌<◌, ◌+◌, ◌-◌, ◌++◌, ◌∷◌, [], ℕ, zero, suc, Bool, true, false, cond, ◌&&◌, eqb, leb, Option, Some, None, List, length, drop, replicate, refl, sym, ◌∙◌, ap, arith, subst, Ok, Err, bytes_eq}
+use Rattle.std.proofs.Common.{◌≡◌, ◌≢◌, ◌≤◌, ◌<◌, ◌+◌, ◌++◌, ◌∷◌, [], ℕ, zero, suc, Bool, true, false, cond, ◌&&◌, Some, None, List, length, replicate, refl, sym, ◌∙◌, ap, arith, subst, Ok, Err, bytes_eq}
 use Rattle.std.specs.Prelude.{slice_index_or, slice_set}
-use Rattle.std.proofs.lemmas.List.{get_or-set_same, get_or-set_other, set-set, set-get_or, length-set, length-replicate}
+use Rattle.std.proofs.lemmas.List.{get_or-set_same, get_or-set_other, set-set, set-get_or, length-set}
 use Rattle.std.proofs.lemmas.Bool.{ne_eqb, eq-eqb}
 use Rattle.std.proofs.lemmas.Option.{same_Some}
 use Rattle.face_poset.specs.Poset.{Layers, layer, count, IsCell}
 use Rattle.certificates.specs.declared.kind.Kind.TheVariants as kind
 use Rattle.certificates.specs.Plain as p
 use Rattle.certificates.specs.Plain.{Plain, parts}
-use Rattle.certificates.specs.Forms.{Form, plain, form_of}
+use Rattle.certificates.specs.Forms.{Form, plain}
 use Rattle.certificates.proofs.CallerLemmas.{form-is, bytes-same}
 use Rattle.cert_lines.specs.declared.kind.LineKind.TheVariants as line_kind
 use Rattle.cert_lines.specs.Kinds.{kind_of}
@@ -16,7 +16,7 @@ use Rattle.cert_lines.specs.Listed.{rise_from, if_rising, numbers_in, numbers_be
 use Rattle.cert_lines.proofs.CallerLemmas.{numbers-told, numbers-rest}
 use Rattle.cert_text.specs.declared.fault.CertFault.{CertFault}
 use Rattle.cert_text.specs.declared.fault.CertFault.TheVariants.{OutOfRange}
-use Rattle.cert_text.specs.Readers.{Left, Answer, and_then, in_range, take_line, many}
+use Rattle.cert_text.specs.Readers.{Left, Answer, and_then, in_range, many}
 use Rattle.cert_text.specs.Picks.{pick_face}
 use Rattle.cert_text.specs.Reading.{face_fits, read_face, read_faces}
 use Rattle.cert_text.specs.Taking.{IsTaken, IsRefused}

@@ -1,8 +1,8 @@
 -- The next line of the text, by the place of its line feed, and by its kind.
-use Rattle.std.proofs.Common.{zero, suc, inl, inr, ◌≢◌, ◌≡◌, ◌≤◌, ◌<◌, ◌+◌, ◌-◌, ◌∷◌, [], ℕ, Bool, true, false, cond, eqb, Option, Some, None, List, length, take, drop, position, refl, sym, ◌∙◌, ap, arith, Ok, Err}
+use Rattle.std.proofs.Common.{zero, suc, inl, inr, ◌≢◌, ◌≡◌, ◌≤◌, ◌+◌, ◌-◌, ◌∷◌, [], ℕ, Bool, true, false, cond, eqb, Option, Some, None, List, length, take, drop, position, refl, sym, ◌∙◌, ap, arith, Err}
 use Rattle.std.specs.Prelude.{slice_index_or}
 use Rattle.std.specs.Option.{option_map, unwrap_or}
-use Rattle.std.specs.List.{slice_split, slice_get}
+use Rattle.std.specs.List.{slice_get}
 use Rattle.std.proofs.lemmas.Option.{same_Some}
 use Rattle.std.proofs.lemmas.List.Splits.{length-slice_split}
 use Rattle.certificates.specs.Forms.{Form, form_of}

@@ -1,5 +1,5 @@
 -- Each reader of a certificate looks at no line behind the one that it refuses.
-use Rattle.std.proofs.Common.{◌≡◌, ◌≤◌, ◌+◌, ◌-◌, ◌∷◌, [], ◌⊎◌, inl, inr, ℕ, zero, suc, Bool, true, false, cond, eqb, ◌||◌, ◌&&◌, not, nat_le, Option, Some, None, List, length, refl, sym, ◌∙◌, ap, arith, subst, Result, Ok, Err}
+use Rattle.std.proofs.Common.{◌≡◌, ◌≤◌, ◌+◌, ◌-◌, ◌∷◌, [], inl, inr, ℕ, zero, suc, Bool, true, false, cond, eqb, ◌||◌, Option, Some, None, List, length, refl, sym, ◌∙◌, ap, arith, Result, Ok, Err}
 use Rattle.std.specs.Prelude.{slice_index_or}
 use Rattle.std.proofs.lemmas.Bool.{ne_eqb}
 use Rattle.face_poset.specs.Poset.{Layers}
@@ -7,19 +7,17 @@ use Rattle.certificates.specs.declared.lines.Line.{Line}
 use Rattle.certificates.specs.declared.lines.PairLine.{PairLine}
 use Rattle.certificates.specs.Parts.{Sparse}
 use Rattle.certificates.specs.Plain as p
-use Rattle.certificates.specs.Placed as q
 use Rattle.certificates.specs.Placed.{SearchSpot}
-use Rattle.certificates.specs.Forms.{Form, plain, placed, form_of}
-use Rattle.certificates.specs.Cert.{CertCover, Cert}
+use Rattle.certificates.specs.Forms.{Form, plain, form_of}
 use Rattle.cert_text.specs.declared.fault.CertFault.{CertFault}
 use Rattle.cert_text.specs.declared.fault.CertFault.TheVariants.{BadLine, WrongOrder, OutOfRange, Ends, BadVersion}
-use Rattle.cert_text.specs.Readers.{Left, Answer, and_then, form_at, formed, next_form, in_range, chosen, take_line, many, each}
+use Rattle.cert_text.specs.Readers.{Left, Answer, and_then, formed, next_form, in_range, chosen, take_line, many}
 use Rattle.cert_text.specs.Picks as k
 use Rattle.cert_text.specs.Picks.{Listing, pick_listing}
 use Rattle.cert_text.specs.Reading as r
 use Rattle.cert_text.specs.Reading.{versioned, Frame, Listed, listing_fits, component_after, is_ending, ended, put_listing, in_listing, formed_listing, listing_from}
 use Rattle.cert_text.specs.Laws.{line_of}
-use Rattle.cert_text.proofs.Locals.{Agree, IsLocal, local-return, local-then, local-next, IsChoice, local-line, local-take, local-many, local-each}
+use Rattle.cert_text.proofs.Locals.{IsLocal, local-return, local-then, IsChoice, local-line, local-take, local-many, local-each}
 
 pub local-map : {A B : Type 0} (read : Left → Answer A) (f : ℕ → A → B) → IsLocal read → IsLocal (λ l. and_then (read l) (λ a. Ok (f l.number a.0, a.1)))
 local-map read f i = local-then read (λ n a m. Ok (f n a, m)) i (λ n a. local-return (f n a))

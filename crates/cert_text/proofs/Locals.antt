@@ -1,5 +1,5 @@
 -- Readers that look at no line behind the one that they refuse: a fault at a line stays where what follows that line is changed.
-use Rattle.std.proofs.Common.{◌≡◌, ◌≤◌, ◌<◌, ◌+◌, ◌++◌, ◌∷◌, [], ◌⊎◌, inl, inr, ℕ, zero, suc, Bool, true, false, cond, eqb, Option, Some, None, List, length, refl, sym, ◌∙◌, ap, arith, subst, Result, Ok, Err}
+use Rattle.std.proofs.Common.{◌≡◌, ◌≤◌, ◌+◌, ◌++◌, ◌∷◌, [], ◌⊎◌, inl, inr, ℕ, zero, suc, Bool, true, false, cond, eqb, Option, Some, None, List, length, refl, sym, ◌∙◌, ap, arith, subst, Result, Ok, Err}
 use Rattle.std.proofs.lemmas.Option.{same_Some}
 use Rattle.certificates.specs.Forms.{Form, form_of}
 use Rattle.cert_text.specs.declared.fault.CertFault.{CertFault}
@@ -145,7 +145,7 @@ next_passes v n k (w ∷ ws) tail other o x more also to e within =
       behind k (ws ++ other),
       two_pieces v k w (ws ++ other) (both_more ws other also) ∙ s.0,
       subst (λ (q : Left). Agree n q (behind k (ws ++ other))) s.1
-      (record { front = ws; tail = tail; other = other; left = refl; right = refl; more = more; also = also; number = refl; to = omega (arith, to) }),
+          (record { front = ws; tail = tail; other = other; left = refl; right = refl; more = more; also = also; number = refl; to = omega (arith, to) }),
     )
 
 pub local-next : (v : ℕ) → IsLocal (next_form v)

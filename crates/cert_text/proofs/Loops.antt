@@ -2,7 +2,7 @@
 use Rattle.std.proofs.Common.{◌≡◌, ◌≤◌, ◌+◌, ◌-◌, ◌++◌, ◌∷◌, [], ℕ, zero, suc, List, length, refl, sym, ◌∙◌, ap, arith, Ok, Err}
 use Rattle.std.proofs.lemmas.List.{append-nil, append_assoc}
 use Rattle.cert_text.specs.declared.fault.CertFault.{CertFault}
-use Rattle.cert_text.specs.Readers.{Left, Answer, and_then, many, each}
+use Rattle.cert_text.specs.Readers.{Left, Answer, and_then, many}
 
 abbrev pub onto : {A : Type 0} → List A → Answer (List A) → Answer (List A)
 onto xs a = and_then a (λ b. Ok (xs ++ b.0, b.1))

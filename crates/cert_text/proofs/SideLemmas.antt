@@ -1,6 +1,6 @@
 -- Lines of two sparse lists.
-use Rattle.std.proofs.Common.{◌≡◌, ◌≢◌, ◌≤◌, ◌<◌, ◌+◌, ◌++◌, ◌∷◌, [], ℕ, Bool, true, false, cond, ◌&&◌, Option, Some, None, List, length, refl, sym, ◌∙◌, ap, arith, subst, Ok, Err}
-use Rattle.std.specs.Prelude.{slice_index_or, slice_set}
+use Rattle.std.proofs.Common.{◌≡◌, ◌≤◌, ◌+◌, ◌++◌, ◌∷◌, [], ℕ, Bool, true, false, cond, ◌&&◌, Option, Some, None, List, length, refl, sym, ◌∙◌, ap, arith, Ok, Err}
+use Rattle.std.specs.Prelude.{slice_set}
 use Rattle.std.proofs.lemmas.Bool.{false≢true}
 use Rattle.std.proofs.lemmas.Option.{same_Some}
 use Rattle.std.proofs.lemmas.List.{get_or-set_same, set-set, set-get_or, length-set}
@@ -11,15 +11,14 @@ use Rattle.certificates.specs.Degrees.{at}
 use Rattle.certificates.specs.Parts.{Sparse}
 use Rattle.certificates.specs.Plain as p
 use Rattle.certificates.specs.Plain.{Plain, parts}
-use Rattle.certificates.specs.Forms.{Form, plain, placed, form_of}
+use Rattle.certificates.specs.Forms.{Form, plain, placed}
 use Rattle.certificates.specs.WellFormed.{are_entries}
 use Rattle.cert_lines.specs.declared.kind.LineKind.TheVariants as line_kind
-use Rattle.cert_lines.specs.Kinds.{kind_of}
 use Rattle.cert_lines.specs.Listed.{list_in, list_behind, if_entries}
 use Rattle.cert_lines.proofs.CallerLemmas.{lists-told}
 use Rattle.cert_text.specs.declared.fault.CertFault.{CertFault}
 use Rattle.cert_text.specs.declared.fault.CertFault.TheVariants.{OutOfRange}
-use Rattle.cert_text.specs.Readers.{Left, Answer, and_then, in_range, take_line}
+use Rattle.cert_text.specs.Readers.{Left, Answer, and_then, in_range}
 use Rattle.cert_text.specs.Picks.{pick_rank, pick_rank_line, pick_classes, pick_class_line}
 use Rattle.cert_text.specs.Reading.{chains_at, read_sides, read_block, read_rank, read_class}
 use Rattle.cert_text.specs.Taking.{IsTaken, IsRefused, pair_if, lists_if, has_lists}

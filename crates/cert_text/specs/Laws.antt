@@ -2,7 +2,8 @@
 --   TextsAreRead       the text of a well-formed certificate reads as that certificate
 --   OnlyTextsAreRead   what reads as a certificate is the text of it, and it is well formed
 --   TextsAreOne        well-formed certificates with equal texts are equal
---   FaultsAreFinal     no text of a well-formed certificate begins with the lines up to one that is refused and has a line feed
+--   FaultsAreFinal     no text of a well-formed certificate begins with the lines up to one that is
+--                      refused and has a line feed
 -- and as steps of these
 --   line_of fault      the line that is refused
 --   lines_to n bytes   the first n lines, each with its line feed
@@ -37,5 +38,7 @@ lines_to n bytes = flat_map (λ line. line ++ 10 ∷ []) (take n (pieces_of byte
 
 -- a text has fewer line feeds than pieces
 abbrev pub FaultsAreFinal : Type 0
-FaultsAreFinal = (bytes : List ℕ) (fault : CertFault) (n : ℕ) → certificate_of bytes ≡ Err fault → line_of fault ≡ Some n → n < length (pieces_of bytes)
+FaultsAreFinal =
+    (bytes : List ℕ) (fault : CertFault) (n : ℕ) → certificate_of bytes ≡ Err fault → line_of fault ≡ Some n
+    → n < length (pieces_of bytes)
     → (c : Cert) (rest : List ℕ) → IsWellFormed c → cert_text c ≢ lines_to n bytes ++ rest

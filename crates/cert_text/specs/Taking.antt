@@ -1,6 +1,6 @@
 -- How the code reads: line by line, by the kind and the numbers of a line.
---   Reads see wanted now result   the answer is what the definition reads, seen through see, with what is left now; a fault
---                                 is its fault, or want of memory
+--   Reads see wanted now result   the answer is what the definition reads, seen through see, with what is left now;
+--                                 a fault is its fault, or want of memory
 --   Lines                         what contracts see of the lines that are left: Left
 --   formed_to n now form          the form with what is left now, or BadLine
 --   IsTaken version before kind now line      the next line has a form of the kind, and this is left behind it

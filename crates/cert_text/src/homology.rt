@@ -64,7 +64,18 @@ fn read_rank(
 {
     let low = chains[degree as usize];
     let high = chains[degree as usize + 1];
-    read_block(alloc, lines, version, Kind::Rank, Kind::RankLine, modulus, degree, low, high, ranks)
+    read_block(
+        alloc,
+        lines,
+        version,
+        Kind::Rank,
+        Kind::RankLine,
+        modulus,
+        degree,
+        low,
+        high,
+        ranks,
+    )
 }
 
 /// The classes of a degree.
@@ -85,7 +96,18 @@ fn read_class(
     ensures lists { OnOk result (classes.new ≡ slice_set classes.old degree (at classes.new degree)) }
 {
     let count = chains[degree as usize];
-    read_block(alloc, lines, version, Kind::Classes, Kind::ClassLine, modulus, degree, count, count, classes)
+    read_block(
+        alloc,
+        lines,
+        version,
+        Kind::Classes,
+        Kind::ClassLine,
+        modulus,
+        degree,
+        count,
+        count,
+        classes,
+    )
 }
 
 /// The lines of a degree, behind the line that says how many they are.
@@ -115,7 +137,18 @@ fn read_block(
     if !is_head(numbers[0], numbers[1], degree, low) {
         return Err(CertFault::OutOfRange(number));
     }
-    read_sides_of(alloc, lines, version, each, modulus, degree, low, high, numbers[1] as u32, into)
+    read_sides_of(
+        alloc,
+        lines,
+        version,
+        each,
+        modulus,
+        degree,
+        low,
+        high,
+        numbers[1] as u32,
+        into,
+    )
 }
 
 fn is_head(first: u64, second: u64, degree: u8, low: u32) -> bool

@@ -1,7 +1,8 @@
 //! The text of a certificate, read: exact to its first fault, in versions 1 and 2.
 //!
 //! What a text is read as is a definition, `certificate_of`, and laws say that the text of a well-formed
-//! certificate is read as that certificate, and nothing else is.
+//! certificate is read as that certificate, that nothing else is, and that a line that is refused stays
+//! refused whatever follows. The readers of the lines up to the classes do what the definition's readers do.
 #![tactic(auto)]
 
 mod fault;

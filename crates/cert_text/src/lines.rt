@@ -85,11 +85,7 @@ fn unended(text: &[u8], number: u32) -> CertFault
 }
 
 /// The next line, if it has a form of the version and this kind.
-pub fn take<'a>(
-    lines: &mut Lines<'a>,
-    version: u8,
-    wanted: LineKind,
-) -> Result<&'a [u8], CertFault>
+pub fn take<'a>(lines: &mut Lines<'a>, version: u8, wanted: LineKind) -> Result<&'a [u8], CertFault>
     ensures line { IfOk result (λ line. IsTaken version lines.old wanted lines.new line.now) }
     ensures fault { IfErr result (λ fault. fault ≢ Memory → IsRefused version lines.old wanted fault) }
 {

@@ -74,9 +74,33 @@ fn read_faces(
     let [points, edges, faces, solids] = cells;
     let mut builder = Builder::new(alloc);
     add_points(&mut builder, points as u32)?;
-    read_layer(alloc, lines, version, 1, points as u32, edges as u32, &mut builder)?;
-    read_layer(alloc, lines, version, 2, edges as u32, faces as u32, &mut builder)?;
-    read_layer(alloc, lines, version, 3, faces as u32, solids as u32, &mut builder)?;
+    read_layer(
+        alloc,
+        lines,
+        version,
+        1,
+        points as u32,
+        edges as u32,
+        &mut builder,
+    )?;
+    read_layer(
+        alloc,
+        lines,
+        version,
+        2,
+        edges as u32,
+        faces as u32,
+        &mut builder,
+    )?;
+    read_layer(
+        alloc,
+        lines,
+        version,
+        3,
+        faces as u32,
+        solids as u32,
+        &mut builder,
+    )?;
     Ok(builder.finish()?)
 }
 
@@ -163,11 +187,7 @@ fn read_face(
 }
 
 /// The numbers of chains, if these are they and they are not too many.
-fn count_if(
-    alloc: Global,
-    space: &Space,
-    chains: [u64; 4],
-) -> Result<Option<[u32; 4]>, AllocError>
+fn count_if(alloc: Global, space: &Space, chains: [u64; 4]) -> Result<Option<[u32; 4]>, AllocError>
     ensures { IfOk result (λ counts. counts
         ≡ (if reading.chains_fit space.now chains then Some chains else None)) }
 {
@@ -189,7 +209,11 @@ fn same_counts(counts: &ChainCounts, chains: [u64; 4]) -> Option<[u32; 4]>
         u64::from(found[2]),
         u64::from(found[3]),
     ];
-    if are_same(&chains, &wide) { Some(found) } else { None }
+    if are_same(&chains, &wide) {
+        Some(found)
+    } else {
+        None
+    }
 }
 
 fn are_same(left: &[u64], right: &[u64]) -> bool

@@ -1,4 +1,4 @@
-use Rattle.std.proofs.Common.{◌≡◌, ◌==◌, ◌&&◌, ◌∙◌, ℕ, Bool, sym, ap, refl, rules}
+use Rattle.std.proofs.Common.{◌==◌, ◌&&◌, ◌∙◌, ℕ, sym, ap, refl, rules}
 use Rattle.std.specs.Prelude.{slice_index_or, nat_le}
 use Rattle.cert_text.specs.Readers.{and_then, many}
 use Rattle.cert_text.specs.Reading.{read_sides}

@@ -1,4 +1,4 @@
-use Rattle.std.proofs.Common.{◌≡◌, ◌∙◌, ap, Ok, List, rules}
+use Rattle.std.proofs.Common.{◌∙◌, ap, Ok, List, rules}
 use Rattle.std.specs.Prelude.{slice_set}
 use Rattle.certificates.specs.declared.lines.Line.{Line}
 use Rattle.certificates.specs.Degrees.{at}

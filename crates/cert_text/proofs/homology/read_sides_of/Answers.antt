@@ -1,4 +1,4 @@
-use Rattle.std.proofs.Common.{◌≡◌, ◌≤◌, ◌∙◌, ◌-◌, sym, ap, arith, List, rules}
+use Rattle.std.proofs.Common.{◌≤◌, ◌∙◌, ◌-◌, sym, ap, arith, List, rules}
 use Rattle.certificates.specs.declared.lines.Line.{Line}
 use Rattle.certificates.specs.Degrees.{at}
 use Rattle.cert_text.specs.Readers.{many}

@@ -1,4 +1,4 @@
-use Rattle.std.proofs.Common.{◌∙◌, ◌≡◌, ℕ, sym, ap, subst, Some, rules}
+use Rattle.std.proofs.Common.{◌∙◌, ℕ, sym, ap, subst, Some, rules}
 use Rattle.cert_lines.specs.declared.kind.LineKind.{LineKind}
 use Rattle.cert_text.specs.declared.fault.CertFault.TheVariants.{BadLine, WrongOrder}
 use Rattle.cert_text.specs.Taking.{IsRefused}

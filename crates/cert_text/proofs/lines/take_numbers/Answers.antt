@@ -1,5 +1,4 @@
 use Rattle.std.proofs.Common.{◌∙◌, ap, sym, Ok, ℕ, List}
-use Rattle.cert_text.specs.Readers.{Answer}
 use Rattle.cert_text.proofs.TakingLemmas.{numbers-taken}
 use Rattle.cert_text.proofs.lines.take_numbers.Goals as goal
 

@@ -1,4 +1,4 @@
-use Rattle.std.proofs.Common.{◌∙◌, sym, ap, rules}
+use Rattle.std.proofs.Common.{◌∙◌, sym, rules}
 use Rattle.cert_text.proofs.LayerLemmas.{other-dim, not_rising, is-rising, is-cell}
 use Rattle.cert_text.proofs.TakingLemmas.{out_of}
 use Rattle.cert_text.proofs.space.read_face.Goals as goal

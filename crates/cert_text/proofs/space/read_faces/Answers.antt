@@ -1,4 +1,4 @@
-use Rattle.std.proofs.Common.{◌≡◌, ◌∙◌, ap, sym, Ok, rules}
+use Rattle.std.proofs.Common.{◌∙◌, ap, sym, Ok, rules}
 use Rattle.std.specs.Prelude.{slice_set}
 use Rattle.face_poset.specs.Poset.{Layers, layer}
 use Rattle.cert_text.proofs.TakingLemmas.{breaks}

@@ -1,4 +1,4 @@
-use Rattle.std.proofs.Common.{◌≡◌, ◌≤◌, ◌∙◌, ◌-◌, ◌++◌, ◌∷◌, [], sym, ap, arith, List, ℕ, rules, length}
+use Rattle.std.proofs.Common.{◌≤◌, ◌∙◌, ◌-◌, ◌++◌, ◌∷◌, [], sym, ap, arith, List, ℕ, rules, length}
 use Rattle.std.specs.Prelude.{slice_set}
 use Rattle.face_poset.specs.Poset.{layer}
 use Rattle.cert_text.specs.Readers.{many}
@@ -17,7 +17,7 @@ pub faces-preserved : goal.faces-preserved
 faces-preserved c =
     let xs : List (List ℕ) = layer c.faces.builder c.args.dim in
     let a = layer-more c.args.builder.now c.faces.builder c.add_cell.new.builder c.args.dim xs c.in_ok-facets.facets.items c.requires.four c.requires.high c.faces.invariant.layers
-        (c.in_ok-add_cell.ensures.added ∙ ap (λ (facets : List ℕ). slice_set c.faces.builder c.args.dim (xs ++ facets ∷ [])) c.deref.ensures.value) in
+    (c.in_ok-add_cell.ensures.added ∙ ap (λ (facets : List ℕ). slice_set c.faces.builder c.args.dim (xs ++ facets ∷ [])) c.deref.ensures.value) in
     let some : 1 ≤ c.faces.left = omega (arith, c.faces-test.true) in
     record {
       read = c.faces.invariant.read

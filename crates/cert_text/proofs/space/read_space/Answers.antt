@@ -1,4 +1,4 @@
-use Rattle.std.proofs.Common.{◌∙◌, sym, ap, rules, List, ℕ}
+use Rattle.std.proofs.Common.{◌∙◌, sym, ap, rules}
 use Rattle.certificates.specs.declared.kind.Kind.TheVariants as kind
 use Rattle.cert_text.specs.Picks.{pick_cells}
 use Rattle.cert_text.specs.Reading.{cells_fit, read_faces}

@@ -1,7 +1,6 @@
 use Rattle.std.proofs.Common.{◌∙◌, ◌≡◌, ◌+◌, ◌-◌, sym, ap, subst, length, take, drop, Err}
 use Rattle.certificates.specs.Forms.{form_of}
-use Rattle.cert_text.specs.Readers.{Left, Answer, next_form, pieces_of}
-use Rattle.certificates.specs.Forms.{Form}
+use Rattle.cert_text.specs.Readers.{Left, next_form, pieces_of}
 use Rattle.cert_text.specs.Taking.{formed_to}
 use Rattle.cert_text.proofs.LineLemmas.{line-cut, line-none}
 use Rattle.cert_text.proofs.lines.Lines.next_line.Goals as goal
