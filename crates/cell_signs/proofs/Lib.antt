@@ -1,0 +1,11 @@
+mod Kept
+mod Sums
+mod Cycles
+mod Rest
+mod Used
+mod Signed
+mod SolidLaw
+mod Placed
+mod Along
+mod Listed
+mod Examples
