@@ -10,6 +10,7 @@ mod ListingReaders
 mod LocalReaders
 mod Locals
 mod Loops
+mod PairLemmas
 mod Passing
 mod Picked
 mod SideLemmas

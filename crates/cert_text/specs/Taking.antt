@@ -10,8 +10,10 @@
 --   pair_if kind form             the first two numbers of a line of the kind
 --   lists_if kind form            the two sparse lists of a line of the kind
 --   has_lists kind                lines of rank, and classes
+--   triple_of pair                the numbers of a pair
 --   any numbers                   no range
 use Rattle.std.specs.Prelude.{◌≡◌, ◌≢◌, ◌⊎◌, ℕ, List, [], ◌∷◌, Bool, true, false, Option, Some, None, option_map, Result, Ok, Err, if◌then◌else◌, slice_index_or}
+use Rattle.face_poset.specs.declared.cells.Pair.{Pair}
 use Rattle.certificates.specs.declared.kind.Kind.{Kind}
 use Rattle.certificates.specs.declared.kind.Kind.TheVariants as kind
 use Rattle.certificates.specs.Parts.{Sparse}
@@ -87,6 +89,9 @@ abbrev pub has_lists : Kind → Bool
 has_lists kind.RankLine = true
 has_lists kind.ClassLine = true
 has_lists k = false
+
+abbrev pub triple_of : Pair → ℕ × ℕ × ℕ
+triple_of pair = (pair.dim, pair.lower, pair.upper)
 
 abbrev pub any : {A : Type 0} → A → Bool
 any x = true

@@ -10,6 +10,7 @@ mod front;
 mod homology;
 mod laws;
 mod lines;
+mod pairs;
 mod space;
 
 pub use certificates::{
