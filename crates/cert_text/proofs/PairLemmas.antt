@@ -1,14 +1,14 @@
 -- Lines of pairs.
-use Rattle.std.proofs.Common.{◌≡◌, ◌≤◌, ◌<◌, ◌+◌, ◌∷◌, [], ℕ, zero, suc, Bool, true, false, cond, ◌&&◌, leb, Option, Some, None, option_map, List, length, refl, sym, ◌∙◌, ap, arith, subst, Ok, Err}
+use Rattle.std.proofs.Common.{◌≡◌, ◌≤◌, ◌+◌, ◌∷◌, [], ℕ, zero, suc, Bool, true, false, cond, ◌&&◌, leb, Option, Some, None, List, length, refl, sym, ◌∙◌, ap, arith, Ok, Err}
 use Rattle.std.specs.Prelude.{slice_index_or}
 use Rattle.std.proofs.lemmas.Bool.{lt-leb}
 use Rattle.std.proofs.lemmas.Option.{same_Some}
 use Rattle.face_poset.specs.declared.cells.Pair.{Pair}
-use Rattle.face_poset.specs.Poset.{Layers, layer, count, IsSpace}
+use Rattle.face_poset.specs.Poset.{Layers, count, IsSpace}
 use Rattle.certificates.specs.declared.kind.Kind.TheVariants as kind
 use Rattle.certificates.specs.declared.lines.PairLine.{PairLine}
 use Rattle.certificates.specs.Plain as p
-use Rattle.certificates.specs.Forms.{Form, plain}
+use Rattle.certificates.specs.Forms.{plain}
 use Rattle.certificates.specs.WellFormed.{is_between}
 use Rattle.cert_text.specs.declared.fault.CertFault.{CertFault}
 use Rattle.cert_text.specs.declared.fault.CertFault.TheVariants.{OutOfRange}

@@ -1,4 +1,4 @@
-use Rattle.std.proofs.Common.{◌≡◌, ◌≤◌, ◌∙◌, ◌-◌, sym, ap, arith, List, rules}
+use Rattle.std.proofs.Common.{◌≤◌, ◌∙◌, ◌-◌, sym, ap, arith, List, rules}
 use Rattle.certificates.specs.declared.lines.PairLine.{PairLine}
 use Rattle.cert_text.specs.Readers.{many}
 use Rattle.cert_text.specs.Reading.{read_pair}
