@@ -1,5 +1,5 @@
-//! Tests of fields of pairs with more pairs, of chosen fields, of the parts of a space, of collapses, of words
-//! and labels, and of the laws of covers.
+//! Tests of fields of pairs with more pairs, of chosen fields, of the parts of a space and their groups, of collapses, of
+//! words and labels, and of the laws of covers.
 //!
 //! They show what no clause says: that calls succeed where there is memory, and worked examples.
 #![tactic(auto)]
@@ -10,6 +10,8 @@ mod chosen;
 mod collapses;
 #[cfg(test)]
 mod filling;
+#[cfg(test)]
+mod groups;
 #[cfg(test)]
 mod laws;
 #[cfg(test)]
