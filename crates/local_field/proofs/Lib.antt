@@ -1,0 +1,2 @@
+mod InsideCells
+mod Examples
