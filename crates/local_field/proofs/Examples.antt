@@ -1,8 +1,8 @@
 -- Worked examples, by computation: a ball of two vertices, two edges between them, two bigons and one 3-cell. Its
 -- cells have the ids 1 and 2, 3 and 4, 5 and 6, and 7.
-use Rattle.std.proofs.Common.{◌≡◌, ℕ, List, [], ◌∷◌, Bool, true, false, length, refl}
+use Rattle.std.proofs.Common.{◌≡◌, ℕ, List, [], ◌∷◌, true, false, length, refl}
 use Rattle.face_poset.specs.declared.cells.Pair.{Pair}
-use Rattle.local_field.specs.Towers.{Building, TowerPair}
+use Rattle.local_field.specs.Towers.{TowerPair}
 use Rattle.local_field.specs.Buildings.{dim_at, is_below, flag_of, building_at, pairs_inside}
 
 abbrev ball : List (List (List ℕ))

@@ -1,2 +1,3 @@
 mod InsideCells
 mod Examples
+mod FlagLaw

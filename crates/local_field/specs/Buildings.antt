@@ -7,6 +7,7 @@
 --   flag_of space dim number           the tower of first facets: the cell, its first facet, the first facet of that,
 --                                      and so on
 --   flag_at space id                   the same of a cell by its id
+--   FlagsAreFull                       the flag of each cell has a cell of each dimension, each a face of the one before
 --   edge_building space edge f         of an edge: the other vertex, and no pairs
 --   steps_after edge steps             the steps that follow the one along an edge
 --   steps_before edge steps            those that come before it
@@ -17,11 +18,11 @@
 --   solid_building space solid face pairs      of a 3-cell: the vertex that a collapse leaves, and its pairs in reverse
 --   building_at space collapse g f     the building of the boundary of a cell without one facet
 --   pairs_inside space collapse dim number     the pairs of towers inside a cell, which leave over its flag
-use Rattle.std.specs.Prelude.{ℕ, zero, suc, ◌-◌, ◌==◌, nat_le, if◌then◌else◌, List, [], ◌∷◌, ◌++◌, map, reverse, slice_index, Bool}
+use Rattle.std.specs.Prelude.{ℕ, zero, suc, ◌-◌, ◌≤◌, ◌==◌, nat_le, if◌then◌else◌, List, [], ◌∷◌, ◌++◌, map, reverse, slice_index, Bool}
 use Rattle.number_lists.specs.Words.{holds}
 use Rattle.face_poset.specs.declared.cells.Cell.{Cell}
 use Rattle.face_poset.specs.declared.cells.Pair.{Pair}
-use Rattle.face_poset.specs.Poset.{Layers, facets_of}
+use Rattle.face_poset.specs.Poset.{Layers, IsSpace, count, facets_of}
 use Rattle.face_poset.specs.Below.{cell_at}
 use Rattle.regular_check.specs.declared.cycles.Step.{Step}
 use Rattle.regular_check.specs.Cycle.{cycle, start_of, end_of}
@@ -29,6 +30,7 @@ use Rattle.sphere_collapses.specs.Collapses.{lower_of, upper_of, without, bounda
 use Rattle.sphere_collapses.specs.Spheres.{first_end, last_end}
 use Rattle.order_complex.specs.Chains.{cells_before, id_of, faces_of}
 use Rattle.local_field.specs.Towers.{Building, TowerPair, local}
+use Rattle.local_field.specs.Inside.{IsFull}
 
 abbrev pub dim_at : Layers → (id : ℕ) → ℕ
 dim_at space id =
@@ -47,12 +49,21 @@ abbrev pub is_below : Layers → (x c : ℕ) → Bool
 is_below space x c = holds (faces_of space (dim_at space c) (number_at space c)) x
 
 abbrev pub flag_of : Layers → (dim number : ℕ) → List ℕ
-flag_of space zero number = number ∷ []
+flag_of space zero number = id_of space (cell_at zero number) ∷ []
 flag_of space (suc dim) number =
     id_of space (cell_at (suc dim) number) ∷ flag_of space dim (slice_index (facets_of space (suc dim) number) 0)
 
 abbrev pub flag_at : Layers → (id : ℕ) → List ℕ
 flag_at space id = flag_of space (dim_at space id) (number_at space id)
+
+abbrev pub FlagsAreFull : Type 0
+FlagsAreFull =
+    (space : Layers) (dim number : ℕ)
+    → IsSpace space
+    → dim ≤ 3
+    → 1 ≤ number
+    → number ≤ count space dim
+    → IsFull (is_below space) (dim_at space) (flag_of space dim number)
 
 abbrev pub edge_building : Layers → (edge f : ℕ) → Building
 edge_building space edge f =

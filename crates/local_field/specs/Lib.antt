@@ -1,5 +1,5 @@
--- What the contracts mean: Towers and Inside. Buildings says what the towers and buildings of a space are; its words
--- are checked by the examples, and no contract cites them yet.
+-- What the contracts mean: Towers, Inside, and Buildings. The buildings of a space are checked by the examples alone: no
+-- contract cites them yet.
 -- Words of lower crates that these speak of stand at the end.
 pub mod Towers
 pub mod Inside

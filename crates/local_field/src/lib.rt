@@ -3,4 +3,4 @@
 
 mod laws;
 
-pub use laws::local_leaves_over;
+pub use laws::{flags_are_full, local_leaves_over};
