@@ -2,6 +2,7 @@
 use crate::outcome::Outcome;
 use crate::refusal::Refusal;
 use array_values::ArrayFault;
+use edge_words::WordFault;
 use face_poset::SpaceFault;
 use gap_text::TextFault;
 use order_complex::ChainFault;
@@ -74,6 +75,20 @@ impl From<ChainFault> for Outcome {
         match fault {
             ChainFault::TooManyChains(count) => Outcome::Refused(Refusal::Chains(count)),
             ChainFault::Memory => Outcome::Memory,
+        }
+    }
+}
+
+impl From<WordFault> for Outcome {
+    ghost use Rattle.std.specs.Prelude.{◌≡◌};
+    ghost use Rattle.hap_ends.specs.Outcomes.{word_outcome};
+
+    ghost from_gives = { λ fault outcome. outcome ≡ word_outcome fault };
+
+    fn from(fault: WordFault) -> Outcome {
+        match fault {
+            WordFault::TooLong(cell) => Outcome::Refused(Refusal::Word(cell)),
+            WordFault::Memory => Outcome::Memory,
         }
     }
 }

@@ -6,3 +6,5 @@ pub use Rattle.hap_inputs.proofs.Stages.{less, not_less}
 pub use Rattle.hap_inputs.proofs.Stages.{passes_next, fails_next}
 -- what is stopped by the number of chains: the refusal is that of the number; few enough come through
 pub use Rattle.hap_inputs.proofs.Stages.{chain_ends, few_passes, many_fail}
+-- what is stopped by a long word: the refusal is that of its cell; where there is none the space comes through
+pub use Rattle.hap_inputs.proofs.Stages.{word_ends, worded_passes}

@@ -1,5 +1,5 @@
 -- From a call that reads to the stages of the reading.
-use Rattle.std.proofs.Common.{◌≡◌, ℕ, ◌≤◌, ◌<◌, Bool, true, false, List, Result, Ok, Err, refl, sym, ap, ◌∙◌, subst, arith, ◌≢◌}
+use Rattle.std.proofs.Common.{None, ◌≡◌, ℕ, ◌≤◌, ◌<◌, Bool, true, false, List, Result, Ok, Err, refl, sym, ap, ◌∙◌, subst, arith, ◌≢◌}
 use Rattle.std.specs.Prelude.{nat_lt, if◌then◌else◌}
 use Rattle.std.proofs.lemmas.Bool.{ltb-true, ltb-false}
 use Rattle.face_poset.specs.Poset.{Layers}
@@ -21,11 +21,15 @@ use Rattle.order_complex.specs.declared.fault.ChainFault.{ChainFault}
 use Rattle.order_complex.specs.declared.fault.ChainFault.TheVariants as in_chains
 use Rattle.order_complex.specs.Chains.{chain_count}
 use Rattle.order_complex.specs.Complex.{IsRefused}
+use Rattle.edge_words.specs.declared.fault.WordFault.{WordFault}
+use Rattle.edge_words.specs.declared.fault.WordFault.TheVariants as in_words
+use Rattle.edge_words.specs.Limits as limits
+use Rattle.part_groups.specs.Groups.{long_word}
 use Rattle.hap_ends.specs.declared.outcome.Outcome.{Outcome}
 use Rattle.hap_ends.specs.declared.refusal.Refusal.{Refusal}
 use Rattle.hap_ends.specs.declared.refusal.Refusal.TheVariants.{Chains}
-use Rattle.hap_inputs.specs.Spaces.{space_in, space_of_kind, of_text, of_value, of_array, unless_broken, only_regular, only_few, chain_limit}
-use Rattle.hap_ends.specs.Outcomes.{text_outcome, space_outcome, array_outcome, regular_outcome, chain_outcome, Fails}
+use Rattle.hap_inputs.specs.Spaces.{space_in, space_of_kind, of_text, of_value, of_array, unless_broken, only_regular, only_few, chain_limit, unless_long, only_worded}
+use Rattle.hap_ends.specs.Outcomes.{text_outcome, space_outcome, array_outcome, regular_outcome, chain_outcome, word_outcome, Fails}
 
 pub less : (n m : ℕ) → n < m → nat_lt n m ≡ true
 less n m h = at (nat_lt n m) refl
@@ -99,6 +103,15 @@ many_fail space many = ap (λ b. if b then Err (Chains (chain_count space)) else
 pub chain_ends : (space : Layers) (fault : ChainFault) → IsRefused (chain_count space) chain_limit fault → Fails (only_few (Ok space)) (chain_outcome fault)
 chain_ends space in_chains.Memory h = tt
 chain_ends space (in_chains.TooManyChains n) h = subst (λ m. only_few (Ok space) ≡ Err (Chains m)) (sym h.0) (many_fail space h.1)
+
+-- a space without long words comes past that stage
+pub worded_passes : (space : Layers) → long_word space ≡ None → only_worded (Ok space) ≡ Ok space
+worded_passes space none = ap (unless_long space) none
+
+-- and another is refused with the cell of the first
+pub word_ends : (space : Layers) (fault : WordFault) → limits.IsFault (long_word space) fault → Fails (only_worded (Ok space)) (word_outcome fault)
+word_ends space in_words.Memory h = tt
+word_ends space (in_words.TooLong cell) h = ap (unless_long space) h
 
 -- where a value that came so far does not come past the next stage, the stages together fail so
 pub fails_next : {A B : Type 0} (first : Result A Refusal) (next : Result A Refusal → Result B Refusal) (value : A) (outcome : Outcome)

@@ -5,9 +5,10 @@
 --   space_in kind bytes           first the text is read, and then the space of its value
 --   only_regular stage            after a stage: refused where the space breaks a rule of regularity
 --   only_few stage                after a stage: refused where the order complex has more chains than are taken
---   regular_in, few_in kind bytes   the space of the bytes after these stages
+--   only_worded stage             after a stage: refused where the word of a cell is too long in the part of a component
+--   regular_in, few_in, worded_in kind bytes   the space of the bytes after these stages
 --   fault_in stage                the refusal of a stage, if there is one
---   of_value, of_array, of_text, unless_broken: steps
+--   of_value, of_array, of_text, unless_broken, unless_long: steps
 use Rattle.std.specs.Prelude.{ℕ, List, nat_lt, if◌then◌else◌}
 use Rattle.std.specs.declared.result.Result.{Result}
 use Rattle.std.specs.declared.result.Result.TheVariants.{Ok, Err}
@@ -28,8 +29,10 @@ use Rattle.hap_words.specs.declared.command.Kind.TheVariants.{Boundary, Cubical,
 use Rattle.regular_check.specs.declared.fault.RegularFault.{RegularFault}
 use Rattle.regular_check.specs.Rules.{first_fault}
 use Rattle.order_complex.specs.Chains.{chain_count}
+use Rattle.face_poset.specs.declared.cells.Cell.{Cell}
+use Rattle.part_groups.specs.Groups.{long_word}
 use Rattle.hap_ends.specs.declared.refusal.Refusal.{Refusal}
-use Rattle.hap_ends.specs.declared.refusal.Refusal.TheVariants.{Text, Space, Array, Irregular, Chains}
+use Rattle.hap_ends.specs.declared.refusal.Refusal.TheVariants.{Text, Space, Array, Irregular, Chains, Word}
 
 abbrev pub chain_limit : ℕ
 chain_limit = 700000
@@ -75,8 +78,19 @@ abbrev pub only_few : Result Layers Refusal → Result Layers Refusal
 only_few (Ok space) = if nat_lt chain_limit (chain_count space) then Err (Chains (chain_count space)) else Ok space
 only_few (Err refusal) = Err refusal
 
+abbrev pub unless_long : Layers → Option Cell → Result Layers Refusal
+unless_long space None = Ok space
+unless_long space (Some cell) = Err (Word cell)
+
+abbrev pub only_worded : Result Layers Refusal → Result Layers Refusal
+only_worded (Ok space) = unless_long space (long_word space)
+only_worded (Err refusal) = Err refusal
+
 abbrev pub regular_in : Kind → List ℕ → Result Layers Refusal
 regular_in kind bytes = only_regular (space_in kind bytes)
 
 abbrev pub few_in : Kind → List ℕ → Result Layers Refusal
 few_in kind bytes = only_few (regular_in kind bytes)
+
+abbrev pub worded_in : Kind → List ℕ → Result Layers Refusal
+worded_in kind bytes = only_worded (regular_in kind bytes)
