@@ -1,5 +1,5 @@
 //! Tests of fields of pairs with more pairs, of chosen fields, of the parts of a space and their groups, of collapses, of
-//! words and labels, and of the laws of covers.
+//! signs, of words and labels, of the laws of covers, of least tables, and of searches for covers.
 //!
 //! They show what no clause says: that calls succeed where there is memory, and worked examples.
 #![tactic(auto)]
@@ -15,7 +15,11 @@ mod groups;
 #[cfg(test)]
 mod laws;
 #[cfg(test)]
+mod leasts;
+#[cfg(test)]
 mod parts;
+#[cfg(test)]
+mod searches;
 #[cfg(test)]
 mod words;
 #[cfg(test)]
