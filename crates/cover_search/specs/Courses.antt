@@ -78,7 +78,8 @@ pub record IsEnd (old new : Passage) : Type 0 where
 
 abbrev pub Pending : Passage → (v : ℕ) → List Position
 Pending p v =
-    map (λ q. (p.sheets, q)) (rest (sound p.relations p.sheets) p.sheets (p.sheets * p.relations.generators) [] p.cells v)
+    map (λ q. (p.sheets, q))
+    (rest (sound p.relations p.sheets) p.sheets (p.sheets * p.relations.generators) [] p.cells v)
     ++ flat_map (live_of p.relations) (from (suc p.sheets) (p.most - p.sheets))
 
 pub record IsPlaced (old : Passage) (k : ℕ) (t : Position) : Type 0 where

@@ -7,7 +7,8 @@ ghost use Rattle.live_laws.specs.Walks.{AreLetters, never_fails};
 ghost use Rattle.sheet_laws.specs.Permutations.{InRange};
 ghost use Rattle.sheet_tables.specs.Positions.{IsProper};
 ghost use Rattle.edge_words.specs.Words.{relations_of};
-ghost use Rattle.cover_search.specs.Courses.{IsPassage, IsAlong, IsNext, IsEnd, IsPlaced, Stops, IsLast, begun_passage, here};
+ghost use Rattle.cover_search.specs.Courses.{IsPassage, IsAlong, IsNext, IsEnd, IsPlaced, IsLast, Stops};
+ghost use Rattle.cover_search.specs.Courses.{begun_passage, here};
 
 use crate::index::index_of;
 use crate::walker::Walker;

@@ -1,5 +1,6 @@
 // The first cells of a table, placed one after another, and the walks of words through them.
-ghost use Rattle.std.specs.Prelude.{◌≡◌, ◌<◌, ◌≤◌, ◌-◌, ◌^◌, ◌++◌, ◌∷◌, ℕ, suc, [], Some, true, length, take, replicate, ◌*◌, ◌%◌, ◌==◌};
+ghost use Rattle.std.specs.Prelude.{◌≡◌, ◌<◌, ◌≤◌, ◌-◌, ◌^◌, ◌*◌, ◌%◌, ◌==◌, ◌++◌, ◌∷◌, ℕ, suc, [], Some};
+ghost use Rattle.std.specs.Prelude.{true, length, take, replicate};
 ghost use Rattle.std.specs.Prelude.{slice_set, slice_index, option_map, IfOk, IfSome};
 ghost use Rattle.live_laws.specs.Live.{may_follow};
 ghost use Rattle.live_laws.specs.Walks.{led, trace, never_fails, AreLetters};
