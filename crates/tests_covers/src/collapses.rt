@@ -8,7 +8,7 @@ use std::test::Fail;
 
 /// A cube. Vertices, and edges along each axis, are numbered by their places, the first coordinate fastest; the faces
 /// are those below and above, in front and behind, to the left and to the right.
-const CUBE: &str =
+pub(crate) const CUBE: &str =
     "[[[1,0],[1,0],[1,0],[1,0],[1,0],[1,0],[1,0],[1,0]],[[2,1,2],[2,3,4],[2,5,6],[2,7,8],[2,1,3],[2,2,4],[2,5,7],[2,6,8],[2,1,5],[2,2,6],[2,3,7],[2,4,8]],[[4,1,2,5,6],[4,3,4,7,8],[4,1,3,9,10],[4,2,4,11,12],[4,5,7,9,11],[4,6,8,10,12]],[[6,1,2,3,4,5,6]]]";
 
 /// The sphere of dimension 3, with two cells of each dimension.

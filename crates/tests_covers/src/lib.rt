@@ -21,6 +21,8 @@ mod parts;
 #[cfg(test)]
 mod searches;
 #[cfg(test)]
+mod signs;
+#[cfg(test)]
 mod words;
 #[cfg(test)]
 mod worked;
