@@ -1,2 +1,4 @@
 mod Ends
+mod Examples
 mod Stages
+mod Texts

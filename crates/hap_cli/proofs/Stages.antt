@@ -10,7 +10,10 @@ use Rattle.hap_ends.specs.declared.outcome.Outcome.{Outcome}
 use Rattle.hap_ends.specs.declared.outcome.Outcome.TheVariants.{Done, Spent, Usage, Refused, ReadFault, WriteFault, Memory}
 use Rattle.hap_ends.specs.declared.refusal.Refusal.{Refusal}
 use Rattle.hap_ends.specs.Outcomes.{Fails}
-use Rattle.hap_inputs.specs.Spaces.{fault_in, only_regular, only_few, chain_limit}
+use Rattle.hap_ends.specs.declared.refusal.Refusal.TheVariants.{Word}
+use Rattle.hap_inputs.specs.Spaces.{fault_in, only_regular, only_few, chain_limit, only_worded, unless_long}
+use Rattle.face_poset.specs.declared.cells.Cell.{Cell}
+use Rattle.part_groups.specs.Groups.{long_word}
 use Rattle.hap_inputs.proofs.CallerLemmas.{few_passes, many_fail, fails_next}
 use Rattle.std.specs.declared.option.Option.{Option}
 use Rattle.tuple_spaces.specs.Torus.{torus_of}
@@ -40,10 +43,19 @@ few_steps space old new most none = at (nat_lt chain_limit (chain_count space)) 
     at false e = subst (λ r. new ≤ old + entries_of r) (sym (few_passes space (ltb-false chain_limit (chain_count space) e))) most
 
 -- what is given of a space that is regular
-pub gives_past : {T : Type 0} (space regular : Layers) (P : Layers → T → Type 0) (r : Result T Outcome) → only_regular (Ok space) ≡ Ok regular → regular ≡ space
-    → GivesIf (only_few (Ok regular)) regular (P regular) r → GivesIf (only_few (only_regular (Ok space))) space (P space) r
-gives_past space regular P (Ok value) stage e h = (ap only_few stage ∙ (h.0 ∙ ap Ok e), subst (λ s. P s value) e h.1)
-gives_past space regular P (Err outcome) stage e h = fails_next (only_regular (Ok space)) only_few regular outcome stage h
+pub gives_past : {T : Type 0} (next : Result Layers Refusal → Result Layers Refusal) (space regular : Layers) (P : Layers → T → Type 0) (r : Result T Outcome) → only_regular (Ok space) ≡ Ok regular → regular ≡ space
+    → GivesIf (next (Ok regular)) regular (P regular) r → GivesIf (next (only_regular (Ok space))) space (P space) r
+gives_past next space regular P (Ok value) stage e h = (ap next stage ∙ (h.0 ∙ ap Ok e), subst (λ s. P s value) e h.1)
+gives_past next space regular P (Err outcome) stage e h = fails_next (only_regular (Ok space)) next regular outcome stage h
+
+-- a space that comes past the stage of words has come past the stage before it
+pub worded_is : (stage : Result Layers Refusal) (space : Layers) → only_worded stage ≡ Ok space → stage ≡ Ok space
+worded_is (Ok s) space e = at (long_word s) e
+  where
+    at : (o : Option Cell) → unless_long s o ≡ Ok space → Ok s ≡ Ok space
+    at None h = h
+    at (Some cell) h = absurd (let bad : Err (Word cell) ≡ Ok space = h in cc)
+worded_is (Err refusal) space e = absurd (let bad : Err refusal ≡ Ok space = e in cc)
 
 pub steps_past : (space regular : Layers) (old new : ℕ) → only_regular (Ok space) ≡ Ok regular → new ≤ old + entries_of (only_few (Ok regular))
     → new ≤ old + entries_of (only_few (only_regular (Ok space)))

@@ -29,7 +29,7 @@ use Rattle.regular_check.specs.Components.{component_count}
 use Rattle.small_field.specs.Modulus.{field_of}
 use Rattle.order_complex.specs.declared.betti.Betti.{Betti}
 use Rattle.order_complex.specs.Numbers.{AreBetti}
-use Rattle.hap_words.specs.Asked.{Asked, cells, check, betti, make}
+use Rattle.hap_words.specs.Asked.{Asked, cells, check, betti, group, make}
 use Rattle.hap_ends.specs.declared.outcome.Outcome.{Outcome}
 use Rattle.hap_ends.specs.declared.outcome.Outcome.TheVariants.{Refused, Memory}
 use Rattle.hap_ends.specs.Refusals.{bare}
@@ -41,6 +41,7 @@ use Rattle.hap_cli.specs.declared.answer.Answer.TheVariants as answer
 use Rattle.hap_cli.specs.declared.make.Summary.{Summary}
 use Rattle.hap_cli.specs.declared.make.ChainNumbers.{ChainNumbers}
 use Rattle.hap_cli.specs.Refusals.{cause}
+use Rattle.hap_cli.specs.GroupTexts.{groups_text, group_text}
 
 abbrev pub cells_text : Layers → List ℕ
 cells_text space =
@@ -88,6 +89,8 @@ IsAnswer (check o) bytes text = (space : Layers) × (regular_in o.source.kind by
 IsAnswer (betti o) bytes text =
     (space : Layers) × (regular_in o.source.kind bytes ≡ Ok space)
     × (numbers : Betti) × AreBetti (field_of o.modulus) space numbers × (text ≡ betti_text numbers)
+IsAnswer (group o) bytes text =
+    (space : Layers) × (regular_in o.source.kind bytes ≡ Ok space) × (text ≡ group_text space)
 IsAnswer (make o) bytes text = IsMade o.size o.modulus text
 IsAnswer other bytes text = ⊥
 
@@ -100,6 +103,7 @@ abbrev pub text_of : Answer → List ℕ
 text_of (answer.Cells space) = cells_text space
 text_of (answer.Check space components) = components_text space components
 text_of (answer.Betti numbers) = betti_text numbers
+text_of (answer.Group groups) = groups_text groups.items
 text_of (answer.Boundaries space) = boundary_text space
 text_of (answer.Summary summary) = summary_text summary
 

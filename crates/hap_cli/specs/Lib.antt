@@ -1,7 +1,8 @@
--- Meaning for contracts, of `run`: Refusals, Answers (what is written; its end is for the code), Ends (how a run ends), Counting
--- (steps).
+-- Meaning for contracts, of `run`: Refusals, Answers (what is written; its end is for the code), GroupTexts (what `group`
+-- writes), Ends (how a run ends), Counting (steps).
 pub mod Refusals
 pub mod Answers
+pub mod GroupTexts
 pub mod Counting
 pub mod Ends
 pub use Rattle.hap_outside.specs.Causes

@@ -11,12 +11,14 @@ ghost use Rattle.hap_cli.specs.Counting.{Counts};
 use crate::betti::{answer_betti, write_betti};
 use crate::cells::{answer_cells, write_cells};
 use crate::check::{answer_check, write_check};
+use crate::group::{answer_group, write_groups};
 use crate::make::{Summary, answer_make, write_summary};
 use face_poset::Space;
 use hap_ends::Outcome;
 use hap_outside::{Failed, Sink};
 use hap_words::Command;
 use order_complex::Betti;
+use part_groups::Group;
 use std::alloc::Global;
 use std::sync::ledger::Ledger;
 use step_count::Steps;
@@ -30,6 +32,8 @@ pub enum Answer {
     Check(Space, u32),
     /// The Betti numbers of a space.
     Betti(Betti),
+    /// The groups of the components of a space.
+    Group(Vec<Group>),
     /// The boundary lists of a space.
     Boundaries(Space),
     /// What `make` tells of a 3-torus with a modulus.
@@ -53,6 +57,7 @@ pub fn answer_to<L: Ledger>(
         Command::Cells(options) => answer_cells(alloc, options, bytes),
         Command::Check(options) => answer_check(alloc, options, bytes),
         Command::Betti(options) => answer_betti(alloc, options, bytes, steps),
+        Command::Group(options) => answer_group(alloc, options, bytes),
         Command::Make(options) => answer_make(alloc, options, bytes, steps),
         _ => Err(Outcome::Usage),
     }
@@ -67,6 +72,7 @@ pub fn write_answer<K: Sink>(out: &mut K, answer: &Answer) -> Result<(), Failed>
         Answer::Cells(space) => write_cells(out, space),
         Answer::Check(space, components) => write_check(out, space, *components),
         Answer::Betti(numbers) => write_betti(out, numbers),
+        Answer::Group(groups) => write_groups(out, groups),
         Answer::Boundaries(space) => space.print(out),
         Answer::Summary(summary) => write_summary(out, summary),
     }

@@ -22,7 +22,9 @@ fn asked(alloc: Global, line: &[&str]) -> Result<Command, WordsFault> {
 /// The kind and the name of an input.
 fn input_of(command: &Command) -> Option<(Kind, Option<&str>)> {
     match command {
-        Command::Cells(options) | Command::Check(options) => Some(named(&options.input)),
+        Command::Cells(options) | Command::Check(options) | Command::Group(options) => {
+            Some(named(&options.input))
+        }
         Command::Betti(options) => Some(named(&options.input)),
         _ => None,
     }
@@ -44,6 +46,11 @@ fn inputs_have_a_kind_and_a_name(rt: HostRuntime) -> Result<(), Fail> {
         (&["cells", "--in="], Kind::Boundary, Some("")),
         (&["check", "--kind", "arcs"], Kind::Arcs, None),
         (&["check", "--kind=cubical"], Kind::Cubical, None),
+        (
+            &["group", "--kind", "arcs", "--in=x"],
+            Kind::Arcs,
+            Some("x"),
+        ),
         (
             &["betti", "--kind", "permutahedral"],
             Kind::Permutahedral,

@@ -14,6 +14,8 @@ mod check;
 #[cfg(test)]
 mod commands;
 #[cfg(test)]
+mod group;
+#[cfg(test)]
 mod make;
 #[cfg(test)]
 mod outside;

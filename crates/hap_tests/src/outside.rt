@@ -11,7 +11,7 @@ fn a_named_input_is_read(rt: HostRuntime) -> Result<(), Fail> {
 
 #[test]
 fn each_read_may_fail(rt: HostRuntime) -> Result<(), Fail> {
-    for word in ["cells", "check", "betti"] {
+    for word in ["cells", "check", "betti", "group"] {
         for call in [1, 2, 3] {
             let told = run_failing(rt.alloc(), &[word], call, 0)?;
             compare(&rt, &told, (7, b"", b"hap: read fault\n"));
@@ -30,6 +30,8 @@ fn each_write_may_fail(rt: HostRuntime) -> Result<(), Fail> {
         (&["check"], 3, b"cells 1 0 0 0\neuler 1\n"),
         (&["check"], 4, b"cells 1 0 0 0\neuler 1\nregular\n"),
         (&["betti"], 1, b""),
+        (&["group"], 1, b""),
+        (&["group"], 2, b"generators 0\n"),
         (&["make", "--size", "2"], 1, b""),
         (&["make", "--size", "2", "--mod", "2"], 1, b""),
         (&["make", "--size", "2", "--mod", "2"], 2, b"torus 2\n"),

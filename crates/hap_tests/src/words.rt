@@ -38,7 +38,7 @@ fn other_words_are_usage(rt: HostRuntime) -> Result<(), Fail> {
         &["cup"],
         &["verify"],
         &["migrate", "--in", "x"],
-        &["group", "--kind", "arcs"],
+        &["group", "--mod", "2"],
         &["covers", "--sheets", "8", "--from", "2/1:1"],
         &["cover", "--sheets", "2", "--index", "1", "--component", "2"],
         &["report", "--mod", "3", "--sheets", "2"],

@@ -238,6 +238,7 @@ abbrev pub verb_is_built : Verb → Bool
 verb_is_built verb.Cells = true
 verb_is_built verb.Check = true
 verb_is_built verb.Betti = true
+verb_is_built verb.Group = true
 verb_is_built verb.Make = true
 verb_is_built other = false
 

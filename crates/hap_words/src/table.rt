@@ -122,5 +122,8 @@ pub fn is_taken(verb: Verb, name: Name) -> bool
 pub fn is_verb_built(verb: Verb) -> bool
     ensures { result ≡ verb_is_built verb }
 {
-    matches!(verb, Verb::Cells | Verb::Check | Verb::Betti | Verb::Make)
+    matches!(
+        verb,
+        Verb::Cells | Verb::Check | Verb::Betti | Verb::Group | Verb::Make
+    )
 }

@@ -1,0 +1,14 @@
+use Rattle.std.proofs.Common.{◌++◌, ◌∷◌, [], codes, length, refl}
+use Rattle.std.specs.Fmt.{signed_decimal}
+use Rattle.std.specs.List.{flat_map}
+use Rattle.hap_outside.proofs.CallerLemmas.{gathers_next, gathers_fail}
+use Rattle.hap_cli.specs.GroupTexts.{component_lines, group_lines, generators_text, generator_line, relators_text, relator_line, word_text, later_letters, counted_line, numbered_text}
+use Rattle.hap_cli.proofs.group.put_group.Goals as goal
+
+pub returns-in_err-put_generators-clause-bytes : goal.returns-in_err-put_generators-clause-bytes
+returns-in_err-put_generators-clause-bytes g c =
+    gathers_fail _ _ _ _ (generators_text c.args.group.now.edges) (relators_text c.args.group.now.relators) (group_lines c.args.group.now) _ c.from_residual.result c.from_residual.ensures.0 c.in_err-put_generators.ensures.bytes refl
+
+pub returns-clause-bytes : goal.returns-clause-bytes
+returns-clause-bytes g c =
+    gathers_next _ _ _ _ _ _ (generators_text c.args.group.now.edges) (relators_text c.args.group.now.relators) (group_lines c.args.group.now) _ c.put_relators.result refl c.in_ok-put_generators.ensures.bytes c.put_relators.ensures.bytes
