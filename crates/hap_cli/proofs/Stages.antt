@@ -48,14 +48,14 @@ pub gives_past : {T : Type 0} (next : Result Layers Refusal → Result Layers Re
 gives_past next space regular P (Ok value) stage e h = (ap next stage ∙ (h.0 ∙ ap Ok e), subst (λ s. P s value) e h.1)
 gives_past next space regular P (Err outcome) stage e h = fails_next (only_regular (Ok space)) next regular outcome stage h
 
+not_long : (o : Option Cell) (s space : Layers) → unless_long s o ≡ Ok space → Ok {E = Refusal} s ≡ Ok space
+not_long None s space h = h
+not_long (Some cell) s space h = cc
+
 -- a space that comes past the stage of words has come past the stage before it
 pub worded_is : (stage : Result Layers Refusal) (space : Layers) → only_worded stage ≡ Ok space → stage ≡ Ok space
-worded_is (Ok s) space e = at (long_word s) e
-  where
-    at : (o : Option Cell) → unless_long s o ≡ Ok space → Ok s ≡ Ok space
-    at None h = h
-    at (Some cell) h = absurd (let bad : Err (Word cell) ≡ Ok space = h in cc)
-worded_is (Err refusal) space e = absurd (let bad : Err refusal ≡ Ok space = e in cc)
+worded_is (Ok s) space e = not_long (long_word s) s space e
+worded_is (Err refusal) space e = cc
 
 pub steps_past : (space regular : Layers) (old new : ℕ) → only_regular (Ok space) ≡ Ok regular → new ≤ old + entries_of (only_few (Ok regular))
     → new ≤ old + entries_of (only_few (only_regular (Ok space)))
