@@ -10,7 +10,6 @@ use Rattle.hap_ends.specs.declared.outcome.Outcome.{Outcome}
 use Rattle.hap_ends.specs.declared.outcome.Outcome.TheVariants.{Done, Spent, Usage, Refused, ReadFault, WriteFault, Memory}
 use Rattle.hap_ends.specs.declared.refusal.Refusal.{Refusal}
 use Rattle.hap_ends.specs.Outcomes.{Fails}
-use Rattle.hap_ends.specs.declared.refusal.Refusal.TheVariants.{Word}
 use Rattle.hap_inputs.specs.Spaces.{fault_in, only_regular, only_few, chain_limit, only_worded, unless_long}
 use Rattle.face_poset.specs.declared.cells.Cell.{Cell}
 use Rattle.part_groups.specs.Groups.{long_word}
@@ -48,7 +47,7 @@ pub gives_past : {T : Type 0} (next : Result Layers Refusal → Result Layers Re
 gives_past next space regular P (Ok value) stage e h = (ap next stage ∙ (h.0 ∙ ap Ok e), subst (λ s. P s value) e h.1)
 gives_past next space regular P (Err outcome) stage e h = fails_next (only_regular (Ok space)) next regular outcome stage h
 
-not_long : (o : Option Cell) (s space : Layers) → unless_long s o ≡ Ok space → Ok {E = Refusal} s ≡ Ok space
+not_long : (o : Option Cell) (s space : Layers) → unless_long s o ≡ Ok space → unless_long s None ≡ Ok space
 not_long None s space h = h
 not_long (Some cell) s space h = cc
 

@@ -1,5 +1,5 @@
 // The command `group`.
-ghost use Rattle.std.specs.Prelude.{◌≡◌, ◌≤◌, ◌++◌, length, codes, Ok};
+ghost use Rattle.std.specs.Prelude.{◌≡◌, ◌≤◌, ◌<◌, ◌++◌, length, slice_index_or, pos, codes, Ok};
 ghost use Rattle.std.specs.Fmt.{signed_decimal};
 ghost use Rattle.std.specs.List.{flat_map};
 ghost use Rattle.hap_outside.specs.Causes.{HasCause};
@@ -185,7 +185,7 @@ fn put_word<K: Sink>(out: &mut K, held: &mut Held, word: &[i32]) -> Result<(), F
 {
     match word {
         [] => held.put(out, &[Piece::Text(b"-")]),
-        [first, rest @ ..] => put_letters(out, held, *first, rest),
+        [_, rest @ ..] => put_letters(out, held, word, rest),
     }
 }
 
@@ -193,22 +193,30 @@ fn put_word<K: Sink>(out: &mut K, held: &mut Held, word: &[i32]) -> Result<(), F
 fn put_letters<K: Sink>(
     out: &mut K,
     held: &mut Held,
-    first: i32,
+    word: &[i32],
     rest: &[i32],
 ) -> Result<(), Failed>
+    requires { 1 ≤ length word.now }
     ensures bytes { Gathers (K.written out.old) (K.written out.new) held.old held.new
-        (signed_decimal first ++ later_letters rest.now) result }
+        (signed_decimal (slice_index_or word.now 0 (pos 0)) ++ later_letters rest.now) result }
     ensures cause { HasCause (K.faults out.old) (K.faults out.new) result }
 {
-    put_letter(out, held, first)?;
+    put_letter(out, held, word, 0)?;
     put_later(out, held, rest)
 }
 
-fn put_letter<K: Sink>(out: &mut K, held: &mut Held, letter: i32) -> Result<(), Failed>
-    ensures bytes { Gathers (K.written out.old) (K.written out.new) held.old held.new (signed_decimal letter) result }
+fn put_letter<K: Sink>(
+    out: &mut K,
+    held: &mut Held,
+    letters: &[i32],
+    index: usize,
+) -> Result<(), Failed>
+    requires { index < length letters.now }
+    ensures bytes { Gathers (K.written out.old) (K.written out.new) held.old held.new
+        (signed_decimal (slice_index_or letters.now index (pos 0))) result }
     ensures cause { HasCause (K.faults out.old) (K.faults out.new) result }
 {
-    held.put(out, &[Piece::Number(i128::from(letter))])
+    held.put(out, &[Piece::Number(i128::from(letters[index]))])
 }
 
 fn put_later<K: Sink>(out: &mut K, held: &mut Held, letters: &[i32]) -> Result<(), Failed>
@@ -216,19 +224,25 @@ fn put_later<K: Sink>(out: &mut K, held: &mut Held, letters: &[i32]) -> Result<(
         (later_letters letters.now) result }
     ensures cause { HasCause (K.faults out.old) (K.faults out.new) result }
 {
-    'letters: for letter in letters {
-        put_later_letter(out, held, *letter)?;
+    for index in 0..letters.len() {
+        put_later_letter(out, held, letters, index)?;
     }
     Ok(())
 }
 
-fn put_later_letter<K: Sink>(out: &mut K, held: &mut Held, letter: i32) -> Result<(), Failed>
+fn put_later_letter<K: Sink>(
+    out: &mut K,
+    held: &mut Held,
+    letters: &[i32],
+    index: usize,
+) -> Result<(), Failed>
+    requires { index < length letters.now }
     ensures bytes { Gathers (K.written out.old) (K.written out.new) held.old held.new
-        (codes " " ++ signed_decimal letter) result }
+        (codes " " ++ signed_decimal (slice_index_or letters.now index (pos 0))) result }
     ensures cause { HasCause (K.faults out.old) (K.faults out.new) result }
 {
-    let letter = Piece::Number(i128::from(letter));
-    held.put(out, &[Piece::Text(b" "), letter])
+    held.put(out, &[Piece::Text(b" ")])?;
+    put_letter(out, held, letters, index)
 }
 
 // Puts words and a number.

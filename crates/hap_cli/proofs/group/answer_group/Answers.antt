@@ -1,4 +1,4 @@
-use Rattle.std.proofs.Common.{Result, ap, ◌∙◌}
+use Rattle.std.proofs.Common.{Result, ap}
 use Rattle.face_poset.specs.Poset.{Layers}
 use Rattle.hap_ends.specs.declared.refusal.Refusal.{Refusal}
 use Rattle.hap_inputs.specs.Spaces.{space_in, only_regular, only_worded, fault_in}

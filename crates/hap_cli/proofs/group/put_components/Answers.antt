@@ -1,9 +1,7 @@
-use Rattle.std.proofs.Common.{◌++◌, ◌∙◌, [], ◌+◌, take, drop, get_or, codes, refl, arith, pos}
-use Rattle.std.specs.Fmt.{signed_decimal}
-use Rattle.std.specs.List.{flat_map}
+use Rattle.std.proofs.Common.{◌∙◌, ◌+◌, take, drop}
 use Rattle.hap_outside.proofs.CallerLemmas.{gathers_next, gathers_break}
-use Rattle.hap_cli.specs.GroupTexts.{component_lines, generator_line, relator_line, later_letters, numbered_text}
-use Rattle.hap_cli.proofs.Texts.{flat-more, flat-split, numbered-more, numbered-split}
+use Rattle.hap_cli.specs.GroupTexts.{component_lines, numbered_text}
+use Rattle.hap_cli.proofs.Texts.{numbered-more, numbered-split}
 use Rattle.hap_cli.proofs.group.put_components.Goals as goal
 
 pub returns-in_err-put_component-clause-bytes : goal.returns-in_err-put_component-clause-bytes

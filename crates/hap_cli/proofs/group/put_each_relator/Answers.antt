@@ -1,9 +1,8 @@
-use Rattle.std.proofs.Common.{◌++◌, ◌∙◌, [], ◌+◌, take, drop, get_or, codes, refl, arith, pos}
-use Rattle.std.specs.Fmt.{signed_decimal}
+use Rattle.std.proofs.Common.{◌∙◌, [], ◌+◌, take, drop, arith}
 use Rattle.std.specs.List.{flat_map}
 use Rattle.hap_outside.proofs.CallerLemmas.{gathers_next, gathers_break}
-use Rattle.hap_cli.specs.GroupTexts.{component_lines, generator_line, relator_line, later_letters, numbered_text}
-use Rattle.hap_cli.proofs.Texts.{flat-more, flat-split, numbered-more, numbered-split}
+use Rattle.hap_cli.specs.GroupTexts.{relator_line}
+use Rattle.hap_cli.proofs.Texts.{flat-more, flat-split}
 use Rattle.hap_cli.proofs.group.put_each_relator.Goals as goal
 
 pub returns-in_err-put_relator-clause-bytes : goal.returns-in_err-put_relator-clause-bytes

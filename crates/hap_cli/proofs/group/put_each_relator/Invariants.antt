@@ -2,7 +2,7 @@ use Rattle.std.proofs.Common.{◌≡◌, Ok, take}
 use Rattle.std.specs.List.{flat_map}
 use Rattle.hap_outside.specs.declared.source.Failed.{Failed}
 use Rattle.hap_outside.specs.Gathers.{Gathers}
-use Rattle.hap_cli.specs.GroupTexts.{component_lines, generator_line, relator_line, later_letters, numbered_text}
+use Rattle.hap_cli.specs.GroupTexts.{relator_line}
 use Rattle.hap_cli.proofs.group.put_each_relator.Given as goal
 
 abbrev pub invariant-loop-index : goal.invariant-loop-index

@@ -1,8 +1,6 @@
-use Rattle.std.proofs.Common.{◌++◌, ◌∷◌, [], codes, length, refl}
-use Rattle.std.specs.Fmt.{signed_decimal}
-use Rattle.std.specs.List.{flat_map}
+use Rattle.std.proofs.Common.{codes, length, refl}
 use Rattle.hap_outside.proofs.CallerLemmas.{gathers_next, gathers_fail}
-use Rattle.hap_cli.specs.GroupTexts.{component_lines, group_lines, generators_text, generator_line, relators_text, relator_line, word_text, later_letters, counted_line, numbered_text}
+use Rattle.hap_cli.specs.GroupTexts.{generators_text, generator_line, counted_line, numbered_text}
 use Rattle.hap_cli.proofs.group.put_generators.Goals as goal
 
 pub returns-in_err-put_count-clause-bytes : goal.returns-in_err-put_count-clause-bytes

@@ -1,8 +1,7 @@
-use Rattle.std.proofs.Common.{◌++◌, ◌∷◌, [], ℕ, codes, length, ap}
-use Rattle.std.specs.Fmt.{signed_decimal}
+use Rattle.std.proofs.Common.{◌++◌, ℕ, codes, ap}
 use Rattle.std.specs.List.{flat_map}
 use Rattle.hap_outside.proofs.CallerLemmas.{gathers_next, gathers_fail}
-use Rattle.hap_cli.specs.GroupTexts.{component_lines, group_lines, generators_text, generator_line, relators_text, relator_line, word_text, later_letters, counted_line, numbered_text}
+use Rattle.hap_cli.specs.GroupTexts.{relators_text, relator_line, counted_line}
 use Rattle.hap_cli.proofs.group.put_relators.Goals as goal
 
 pub returns-in_err-put_count-clause-bytes : goal.returns-in_err-put_count-clause-bytes

@@ -1,4 +1,4 @@
-use Rattle.std.proofs.Common.{◌≡◌, Ok, ap, sym, ◌∙◌}
+use Rattle.std.proofs.Common.{◌≡◌}
 use Rattle.part_groups.specs.Groups.{groups_of}
 use Rattle.hap_inputs.specs.Spaces.{only_worded}
 use Rattle.hap_cli.proofs.Stages.{gives_past}
