@@ -12,7 +12,7 @@ use Rattle.regular_check.specs.Rules.{IsRegular}
 use Rattle.regular_check.specs.Cycle.{CyclesGoRound, cycle}
 use Rattle.sphere_collapses.specs.Spheres.{first_end}
 use Rattle.cell_signs.specs.Oriented.{SignedSpace, negative_in}
-use Rattle.cell_signs.specs.Along.{goes_back, solid_negative, HasLowSigns, HasHighSigns}
+use Rattle.cell_signs.specs.Along.{goes_back, solid_negative, HasLowSigns, HasHighSigns, HaveHighSigns}
 use Rattle.cell_signs.specs.Minus.{first_lists, back_lists, IsAlong, AreAlong, signed_by_lists, IsKept}
 use Rattle.cell_signs.proofs.Kept.{facets-cell}
 use Rattle.cell_signs.proofs.SolidLaw.{signs_orient}
@@ -80,13 +80,13 @@ module _ (space : List (List (List ℕ))) (edges disks solids : List (List ℕ))
   filtered : (f : ℕ → Bool) (xs ys : List ℕ) (x : ℕ) → ys ≡ filter f xs → holds xs x ≡ true → holds ys x ≡ f x
   filtered f xs ys x e h = ap (λ (zs : List ℕ). holds zs x) e ∙ (holds-filter f xs x ∙ (ap (λ (b : Bool). f x && b) h ∙ and-true (f x)))
 
-  low_signs : HasLowSigns space (negative_in signed)
+  pub low_signs : HasLowSigns space (negative_in signed)
   low_signs = record {
     edges = λ e v low high h. ap (λ (xs : List ℕ). holds xs v) (edge_at e low high) ∙ or-false (eqb (first_end space e) v);
     disks = λ c e low high h. filtered (goes_back (cycle space c)) (facets_of space 2 c) (get_or disks (c - 1) []) e (disk_at c low high) h;
   }
 
-  high_signs : (cell : ℕ) → 1 ≤ cell → cell ≤ count space 3 → HasHighSigns space (negative_in signed) cell
+  pub high_signs : HaveHighSigns space (negative_in signed)
   high_signs cell low high =
       let h = solids_are.each cell low high in
       record {

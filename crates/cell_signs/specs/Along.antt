@@ -14,6 +14,7 @@
 --   solid_negative space cell pairs    the signs along the pairs, where no disk of the 3-cell has -1 at first
 --   HasHighSigns space negative cell   along a collapse of its boundary less one disk the disks of the 3-cell have
 --                                      these signs
+--   HaveHighSigns space negative       so has each 3-cell
 --   PairsFit space cell pairs          each pair of an edge and a 2-cell is one of a disk of the 3-cell and an edge
 --                                      of it
 use Rattle.std.specs.Prelude.{◌≡◌, ℕ, ◌≤◌, ◌==◌, ◌&&◌, List, [], ◌∷◌, Bool, true, false, not, if◌then◌else◌, filter, slice_index, All}
@@ -81,6 +82,9 @@ pub record HasHighSigns (space : Layers) (negative : ℕ → ℕ → ℕ → Boo
       (disk : ℕ)
       → holds (facets_of space 3 cell) disk ≡ true
       → negative 3 cell disk ≡ solid_negative space cell pairs disk
+
+abbrev pub HaveHighSigns : Layers → (ℕ → ℕ → ℕ → Bool) → Type 0
+HaveHighSigns space negative = (cell : ℕ) → 1 ≤ cell → cell ≤ count space 3 → HasHighSigns space negative cell
 
 abbrev pub PairsFit : Layers → (cell : ℕ) → List Pair → Type 0
 PairsFit space cell pairs =

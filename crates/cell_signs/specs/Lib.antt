@@ -1,5 +1,5 @@
--- What the contracts mean: Oriented.
--- What the code keeps for itself: Along and Minus.
+-- What the contracts mean: Oriented and Along.
+-- What the code keeps for itself: Minus.
 -- Words of lower crates that these speak of stand at the end.
 pub mod Oriented
 pub mod Along

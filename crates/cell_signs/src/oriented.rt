@@ -2,6 +2,7 @@ ghost use Rattle.std.specs.Prelude.{◌≡◌, ◌≤◌, ◌-◌, [], Contains,
 ghost use Rattle.face_poset.specs.Poset.{count, facets_of, cofaces_of, IsSpace};
 ghost use Rattle.face_poset.specs.Signs.{sign_of, SignsCancel};
 ghost use Rattle.cell_signs.specs.Oriented.{IsOriented, negative_in};
+ghost use Rattle.cell_signs.specs.Along.{HasLowSigns, HaveHighSigns};
 ghost use Rattle.cell_signs.specs.Minus.{IsKept, signed_by_lists};
 
 use crate::disks::list_disks;
@@ -39,12 +40,14 @@ impl<'a> Oriented<'a> {
     /// Gives the facets of all cells signs.
     ///
     /// An edge has -1 at its first vertex and 1 at its second. A 2-cell has 1 at the edges that its cycle
-    /// goes forward, and -1 at the others. A 3-cell has 1 at its first 2-cell; then, along a collapse of
-    /// its boundary, each pair of an edge and a 2-cell gives the 2-cell the sign that cancels, over the
+    /// goes forward, and -1 at the others. A 3-cell has 1 at one of its 2-cells; then, along a collapse of
+    /// the rest of its boundary, each pair of an edge and a 2-cell gives the 2-cell the sign that cancels, over the
     /// edge, with the other 2-cell there.
     pub fn new(alloc: Global, regular: &'a Regular<'_>) -> Result<Oriented<'a>, AllocError>
         ensures space { IfOk result (λ signed. signed.space ≡ regular.entry.now) }
         ensures oriented { IfOk result (λ signed. IsOriented signed.space (negative_in signed)) }
+        ensures low { IfOk result (λ signed. HasLowSigns signed.space (negative_in signed)) }
+        ensures high { IfOk result (λ signed. HaveHighSigns signed.space (negative_in signed)) }
     {
         cycles_go_round();
         let edges = list_edges(alloc, regular)?;
