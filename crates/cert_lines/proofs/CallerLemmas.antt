@@ -4,3 +4,7 @@
 pub use Rattle.cert_lines.proofs.WordLemmas.{numbers-told, lists-told, numbers-rest}
 -- a text cut at the first such byte, and one without it
 pub use Rattle.cert_lines.proofs.CutLemmas.{IsCut, cut-none, cut-some}
+-- the number, the spot and the table of a line, by what it says
+pub use Rattle.cert_lines.proofs.PlacedSaid.{sheets-said, cover-said, spent-said}
+-- rows that fit are those of their cells, and cells that fit have rows
+pub use Rattle.cert_lines.proofs.TableRows.{rows-there, rows-back}

@@ -2,6 +2,7 @@ ghost use Rattle.std.specs.Prelude.{◌≡◌, ◌≤◌, ◌+◌, ◌<◌, ◌&
 ghost use Rattle.certificates.specs.Tokens.{words_of};
 ghost use Rattle.cert_lines.specs.Pieces.{words_left};
 ghost use Rattle.cert_lines.specs.Listed as listed;
+ghost use Rattle.cert_lines.specs.Tables.{word_in};
 
 use crate::scan::cut_word;
 use crate::word::{read_number, read_token};
@@ -50,6 +51,15 @@ pub fn rising_at(
 {
     let (_, rest) = cut_word(line);
     read_rising(alloc, behind_words(rest, place), most)
+}
+
+/// The word that stands so many words behind the first word of the line, counted from 0.
+pub fn word_at(line: &[u8], place: usize) -> Option<&[u8]>
+    ensures { option_map (λ s. s.now) result ≡ word_in line.now place }
+{
+    let (_, rest) = cut_word(line);
+    let (word, _) = cut_word(behind_words(rest, place)?);
+    Some(word)
 }
 
 /// What stands behind so many words.

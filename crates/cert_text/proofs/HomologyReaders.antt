@@ -170,7 +170,7 @@ classes-read v m chains =
 abbrev Place : Type 0
 Place = ℕ × ℕ × ℕ × ℕ
 
-same_place-is : (a b : Place) → same_place a b ≡ true → a ≡ b
+pub same_place-is : (a b : Place) → same_place a b ≡ true → a ≡ b
 same_place-is a b h =
     let q = and-parts (eqb a.0 b.0 && eqb a.1 b.1 && eqb a.2 b.2) (eqb a.3 b.3) h in
     let r = and-parts (eqb a.0 b.0 && eqb a.1 b.1) (eqb a.2 b.2) q.0 in

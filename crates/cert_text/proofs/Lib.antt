@@ -1,5 +1,9 @@
+mod BodyLemmas
 mod CertReaders
+mod ColumnLemmas
 mod CoverReaders
+mod EachLemmas
+mod EntryLemmas
 mod Equivalents
 mod Examples
 mod Final
@@ -13,9 +17,10 @@ mod Loops
 mod PairLemmas
 mod Passing
 mod Picked
+mod ProductLemmas
 mod SideLemmas
 mod SpaceReaders
-mod TableRows
+mod SpotLemmas
 mod TakingLemmas
 mod Tests
 mod WellCovers

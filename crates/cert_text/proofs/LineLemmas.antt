@@ -1,5 +1,5 @@
 -- The next line of the text, by the place of its line feed, and by its kind.
-use Rattle.std.proofs.Common.{zero, suc, inl, inr, ◌≢◌, ◌≡◌, ◌≤◌, ◌+◌, ◌-◌, ◌∷◌, [], ℕ, Bool, true, false, cond, eqb, Option, Some, None, List, length, take, drop, position, refl, sym, ◌∙◌, ap, arith, Err}
+use Rattle.std.proofs.Common.{zero, suc, inr, ◌≢◌, ◌≡◌, ◌≤◌, ◌+◌, ◌-◌, ◌∷◌, [], ℕ, Bool, true, false, cond, eqb, Option, Some, None, List, length, take, drop, position, refl, sym, ◌∙◌, ap, arith, Err}
 use Rattle.std.specs.Prelude.{slice_index_or}
 use Rattle.std.specs.Option.{option_map, unwrap_or}
 use Rattle.std.specs.List.{slice_get}
@@ -54,10 +54,8 @@ taken-there v l m k line h e =
     let p = formed_kind (form_of v line) k e in
     record { form = p.0; next = h ∙ ap (formed_to l.number m) p.1; kind = p.2; of = p.1 }
 
-pub taken-none : (v : ℕ) (l m : Left) (w : LineKind) (line : List ℕ) → next_form v l ≡ formed_to l.number m (form_of v line) → option_map kind_of (form_of v line) ≡ None → IsRefused v l w (BadLine l.number)
-taken-none v l m w line h e = inl (h ∙ ap (formed_to l.number m) (formed_none (form_of v line) e))
+pub taken-none : (v : ℕ) (l m : Left) (line : List ℕ) → next_form v l ≡ formed_to l.number m (form_of v line) → option_map kind_of (form_of v line) ≡ None → next_form v l ≡ Err (BadLine l.number)
+taken-none v l m line h e = h ∙ ap (formed_to l.number m) (formed_none (form_of v line) e)
 
-pub taken-other : (v : ℕ) (l m : Left) (k w : LineKind) (line : List ℕ) → next_form v l ≡ formed_to l.number m (form_of v line) → option_map kind_of (form_of v line) ≡ Some k → k ≢ w → IsRefused v l w (WrongOrder l.number)
-taken-other v l m k w line h e other =
-    let p = formed_kind (form_of v line) k e in
-    inr (record { form = p.0; now = m; next = h ∙ ap (formed_to l.number m) p.1; kind = λ s. other (sym p.2 ∙ s); is = refl })
+pub other-kind : (v : ℕ) (l m : Left) (k w : LineKind) (line : List ℕ) → IsTaken v l k m line → k ≢ w → IsRefused v l w (WrongOrder l.number)
+other-kind v l m k w line t other = inr (record { form = t.form; now = m; next = t.next; kind = λ s. other (sym t.kind ∙ s); is = refl })

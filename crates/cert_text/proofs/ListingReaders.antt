@@ -10,15 +10,16 @@ use Rattle.certificates.specs.Cert.{CoverTable, CoverSection, rows_of}
 use Rattle.certificates.specs.Texts.{Stated, cover_line, section_lines, ending_line}
 use Rattle.certificates.specs.WellFormed.{is_between, columns_of, table_fits, are_numbered}
 use Rattle.certificates.proofs.CallerLemmas.{form-is, form-back}
+use Rattle.cert_lines.specs.Tables.{rows_fit}
+use Rattle.cert_lines.proofs.CallerLemmas.{rows-there, rows-back}
 use Rattle.cert_text.specs.declared.fault.CertFault.{CertFault}
 use Rattle.cert_text.specs.declared.fault.CertFault.TheVariants.{BadLine, OutOfRange, Ends}
 use Rattle.cert_text.specs.Readers.{Left, Answer, and_then}
 use Rattle.cert_text.specs.Picks.{Listing, a_table, a_section, an_ending, pick_listing}
-use Rattle.cert_text.specs.Reading.{Frame, Listed, rows_fit, listing_fits, component_after, is_ending, ended, table_at, put_listing, in_listing, formed_listing, listing_from, read_listed}
+use Rattle.cert_text.specs.Reading.{Frame, Listed, listing_fits, component_after, is_ending, ended, table_at, put_listing, in_listing, formed_listing, listing_from, read_listed}
 use Rattle.cert_text.proofs.Passing.{Passed, and-parts, and-both, passed-append, between, passed-first, passed-second}
 use Rattle.cert_text.proofs.Equivalents.{IsReader, both_ok, then_ok, same_Ok, renumbered}
 use Rattle.cert_text.proofs.Picked.{listing_form, listing-picked, listing-back}
-use Rattle.cert_text.proofs.TableRows.{rows-there, rows-back}
 use Rattle.cert_text.proofs.Tests.{own-number, same-number}
 
 abbrev pub listed_lines : (v : ℕ) → Listed → List Stated

@@ -3,9 +3,7 @@ use Rattle.std.proofs.Common.{◌≡◌, ◌≤◌, ◌+◌, ◌-◌, ◌++◌, 
 use Rattle.std.proofs.lemmas.List.{append-nil, append_assoc}
 use Rattle.cert_text.specs.declared.fault.CertFault.{CertFault}
 use Rattle.cert_text.specs.Readers.{Left, Answer, and_then, many}
-
-abbrev pub onto : {A : Type 0} → List A → Answer (List A) → Answer (List A)
-onto xs a = and_then a (λ b. Ok (xs ++ b.0, b.1))
+use Rattle.cert_text.specs.Taking.{onto}
 
 pub onto-nil : {A : Type 0} (a : Answer (List A)) → a ≡ onto [] a
 onto-nil (Ok b) = refl
@@ -14,7 +12,7 @@ onto-nil (Err f) = refl
 pub onto-over : {A : Type 0} (xs : List A) (l : Left) → onto xs (Ok ([], l)) ≡ Ok (xs, l)
 onto-over {A} xs l = ap (λ (ys : List A). Ok (ys, l)) (append-nil xs)
 
-onto-cons : {A : Type 0} (xs : List A) (x : A) (a : Answer (List A)) → onto xs (and_then a (λ b. Ok (x ∷ b.0, b.1))) ≡ onto (xs ++ x ∷ []) a
+pub onto-cons : {A : Type 0} (xs : List A) (x : A) (a : Answer (List A)) → onto xs (and_then a (λ b. Ok (x ∷ b.0, b.1))) ≡ onto (xs ++ x ∷ []) a
 onto-cons xs x (Err f) = refl
 onto-cons {A} xs x (Ok b) = ap (λ (ys : List A). Ok (ys, b.1)) (sym (append_assoc xs (x ∷ []) b.0))
 

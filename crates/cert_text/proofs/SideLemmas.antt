@@ -65,14 +65,14 @@ pub sides-refused : (v : ℕ) (k : Kind) (m low high : ℕ) (l : Left) (f : Cert
 sides-refused v k m low high l f r =
     ap (sides_of l.number) (refused-is v l (line_kind.Plain k) f (lists_if k) (fit m low high) (λ g h. sym (same_lists k g) ∙ no-kind lists k g h) r)
 
-entries-none : (m most : ℕ) (es : Sparse) → None ≡ if_entries m most es → are_entries m most es ≡ false
+pub entries-none : (m most : ℕ) (es : Sparse) → None ≡ if_entries m most es → are_entries m most es ≡ false
 entries-none m most es h = at (are_entries m most es) h
   where
     at : (t : Bool) → None ≡ cond t (Some es) None → t ≡ false
     at true h = cc
     at false h = refl
 
-entries-some : (m most : ℕ) (es xs : Sparse) → Some xs ≡ if_entries m most es → (are_entries m most es ≡ true) × (es ≡ xs)
+pub entries-some : (m most : ℕ) (es xs : Sparse) → Some xs ≡ if_entries m most es → (are_entries m most es ≡ true) × (es ≡ xs)
 entries-some m most es xs h = at (are_entries m most es) h
   where
     at : (t : Bool) → Some xs ≡ cond t (Some es) None → (t ≡ true) × (es ≡ xs)

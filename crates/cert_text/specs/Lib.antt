@@ -1,10 +1,11 @@
 -- What contracts mean: Reading (the certificate of a text, or its first fault), Laws. Steps of it: Readers, Picks. How the
--- code reads: Taking.
+-- code reads: Taking, Steps.
 -- Words of lower crates that these speak of stand at the end.
 pub mod Readers
 pub mod Picks
 pub mod Taking
 pub mod Reading
+pub mod Steps
 pub mod Laws
 pub use Rattle.certificates.specs.Forms
 pub use Rattle.certificates.specs.Cert

@@ -28,6 +28,7 @@ use Rattle.certificates.specs.WellFormed.{are_entries, is_between, product_order
 use Rattle.cert_text.specs.declared.fault.CertFault.{CertFault}
 use Rattle.cert_text.specs.declared.fault.CertFault.TheVariants.{BadLine, WrongOrder, OutOfRange, Ends, BadVersion}
 use Rattle.cert_lines.specs.Listed.{rise_from}
+use Rattle.cert_lines.specs.Tables.{rows_fit}
 use Rattle.cert_text.specs.Readers.{Left, Answer, pieces_of, and_then, next_form, take_line, many, each}
 use Rattle.cert_text.specs.Picks as k
 use Rattle.cert_text.specs.Picks.{Listing, a_table, a_section, an_ending, pick_listing}
@@ -175,11 +176,6 @@ pub record Listed : Type 0 where
   pub tables : List CoverTable
   pub sections : List CoverSection
   pub spent : Option SearchSpot
-
-abbrev pub rows_fit : (columns sheets : ℕ) → SheetRows → Bool
-rows_fit columns sheets [] = columns == 0
-rows_fit columns sheets (row ∷ rows) =
-    not (columns == 0) && (length (row ∷ rows) == sheets) && list_all (λ r. (length r == columns) && list_all (is_between 1 sheets) r) (row ∷ rows)
 
 -- whether the line is in its range, where a section of the component is open
 abbrev pub listing_fits : Frame → (component : ℕ) → Listing → Bool

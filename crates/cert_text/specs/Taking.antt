@@ -1,6 +1,7 @@
 -- How the code reads: line by line, by the kind and the numbers of a line.
 --   Reads see wanted now result   the answer is what the definition reads, seen through see, with what is left now;
 --                                 a fault is its fault, or want of memory
+--   Says see wanted result        the same of what one line says, whatever is left
 --   Lines                         what contracts see of the lines that are left: Left
 --   formed_to n now form          the form with what is left now, or BadLine
 --   IsTaken version before kind now line      the next line has a form of the kind, and this is left behind it
@@ -12,22 +13,37 @@
 --   has_lists kind                lines of rank, and classes
 --   triple_of pair                the numbers of a pair
 --   any numbers                   no range
-use Rattle.std.specs.Prelude.{◌≡◌, ◌≢◌, ◌⊎◌, ℕ, List, [], ◌∷◌, Bool, true, false, Option, Some, None, option_map, Result, Ok, Err, if◌then◌else◌, slice_index_or}
+--   onto xs read                  what was read, behind these
+--   quadruple numbers             the first four as a place
+--   place_of place, critical_of critical, sheets_of version sheets   what the code holds
+--   column_at v i later columns left   the columns of component i, which so many follow, of so many columns
+use Rattle.std.specs.Prelude.{◌≡◌, ◌≢◌, ◌⊎◌, ◌==◌, ◌&&◌, ◌||◌, not, nat_le, ℕ, List, [], ◌∷◌, ◌++◌, Bool, true, false, Option, Some, None, option_map, Result, Ok, Err, if◌then◌else◌, slice_index_or}
 use Rattle.face_poset.specs.declared.cells.Pair.{Pair}
 use Rattle.certificates.specs.declared.kind.Kind.{Kind}
 use Rattle.certificates.specs.declared.kind.Kind.TheVariants as kind
 use Rattle.certificates.specs.Parts.{Sparse}
 use Rattle.certificates.specs.Plain.{parts}
+use Rattle.certificates.specs.Placed.{SearchSpot}
+use Rattle.certificates.specs.Cert.{spot_of}
 use Rattle.certificates.specs.Forms.{Form, plain, placed, form_of}
 use Rattle.cert_lines.specs.declared.kind.LineKind.{LineKind}
 use Rattle.cert_lines.specs.Kinds.{kind_of}
 use Rattle.cert_text.specs.declared.fault.CertFault.{CertFault}
 use Rattle.cert_text.specs.declared.fault.CertFault.TheVariants.{BadLine, WrongOrder, Memory}
-use Rattle.cert_text.specs.Readers.{Left, Answer, next_form}
+use Rattle.cert_text.specs.declared.products.Place.{Place}
+use Rattle.cert_text.specs.declared.columns.Critical.{Critical}
+use Rattle.cert_text.specs.declared.spots.Sheets.{Sheets}
+use Rattle.cert_text.specs.Readers.{Left, Answer, and_then, next_form, take_line}
+use Rattle.cert_text.specs.Picks.{pick_columns}
+use Rattle.cert_text.specs.Reading.{numbered_if}
 
 abbrev pub Reads : {A B : Type 0} → (see : B → A) → (wanted : Answer A) → (now : Left) → Result B CertFault → Type 0
 Reads see wanted now (Ok b) = wanted ≡ Ok (see b, now)
 Reads see wanted now (Err f) = f ≢ Memory → wanted ≡ Err f
+
+abbrev pub Says : {A B : Type 0} → (see : B → A) → (wanted : Result A CertFault) → Result B CertFault → Type 0
+Says see wanted (Ok b) = wanted ≡ Ok (see b)
+Says see wanted (Err f) = f ≢ Memory → wanted ≡ Err f
 
 abbrev pub formed_to : (n : ℕ) → (now : Left) → Option Form → Answer Form
 formed_to n now None = Err (BadLine n)
@@ -95,3 +111,23 @@ triple_of pair = (pair.dim, pair.lower, pair.upper)
 
 abbrev pub any : {A : Type 0} → A → Bool
 any x = true
+
+abbrev pub onto : {A : Type 0} → List A → Answer (List A) → Answer (List A)
+onto xs a = and_then a (λ b. Ok (xs ++ b.0, b.1))
+
+abbrev pub quadruple : List ℕ → ℕ × ℕ × ℕ × ℕ
+quadruple ns = (slice_index_or ns 0 0, slice_index_or ns 1 0, slice_index_or ns 2 0, slice_index_or ns 3 0)
+
+abbrev pub place_of : Place → ℕ × ℕ × ℕ × ℕ
+place_of place = (place.i, place.a, place.j, place.b)
+
+abbrev pub critical_of : Critical → ℕ × List ℕ
+critical_of critical = (critical.number, critical.cells)
+
+abbrev pub sheets_of : (version : ℕ) → Sheets → Option ℕ × ℕ × SearchSpot
+sheets_of version sheets = (numbered_if version sheets.number, sheets.most, spot_of sheets.from)
+
+abbrev pub column_at : (v i later columns : ℕ) → Left → Answer ℕ
+column_at v i later columns left =
+    and_then (take_line v pick_columns (λ s. (s.0 == i) && nat_le s.1 columns && (not (later == 0) || (s.1 == columns))) left)
+    (λ a. Ok (a.0.1, a.1))

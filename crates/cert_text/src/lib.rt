@@ -2,16 +2,22 @@
 //!
 //! What a text is read as is a definition, `certificate_of`, and laws say that the text of a well-formed
 //! certificate is read as that certificate, that nothing else is, and that a line that is refused stays
-//! refused whatever follows. The readers of the lines up to the classes do what the definition's readers do.
+//! refused whatever follows. [`parse`] does what the definition says.
 #![tactic(auto)]
 
+mod columns;
+mod cover;
 mod fault;
 mod front;
 mod homology;
 mod laws;
 mod lines;
+mod listing;
 mod pairs;
+mod products;
 mod space;
+mod spots;
+mod text;
 
 pub use certificates::{
     Certificate, CoverLine, CoverLines, CoverPart, Ending, Line, LinesByDegree, Numbers, PairLine,
@@ -20,3 +26,4 @@ pub use certificates::{
 };
 pub use fault::CertFault;
 pub use laws::{faults_are_final, only_texts_are_read, texts_are_one, texts_are_read};
+pub use text::parse;

@@ -13,6 +13,7 @@ use std::marker::Model;
 
 /// The lines of a text that are left. Contracts see the number of the next line and the pieces of the
 /// rest between line feeds.
+#[derive(Drop)]
 pub struct Lines<'a> {
     rest: &'a [u8],
     number: u32,
@@ -84,22 +85,30 @@ fn unended(text: &[u8], number: u32) -> CertFault
     }
 }
 
+/// The next line and its kind, if it has a form of the version.
+pub fn take_any<'a>(lines: &mut Lines<'a>, version: u8) -> Result<(LineKind, &'a [u8]), CertFault>
+    ensures line { IfOk result (λ found. IsTaken version lines.old found.0 lines.new found.1.now) }
+    ensures fault { IfErr result (λ fault. fault ≢ Memory → next_form version lines.old ≡ Err fault) }
+{
+    let number = lines.number();
+    let line = lines.next_line()?;
+    match line_kind(version, line) {
+        None => Err(CertFault::BadLine(number)),
+        Some(kind) => Ok((kind, line)),
+    }
+}
+
 /// The next line, if it has a form of the version and this kind.
 pub fn take<'a>(lines: &mut Lines<'a>, version: u8, wanted: LineKind) -> Result<&'a [u8], CertFault>
     ensures line { IfOk result (λ line. IsTaken version lines.old wanted lines.new line.now) }
     ensures fault { IfErr result (λ fault. fault ≢ Memory → IsRefused version lines.old wanted fault) }
 {
     let number = lines.number();
-    let line = lines.next_line()?;
-    match line_kind(version, line) {
-        None => Err(CertFault::BadLine(number)),
-        Some(kind) => {
-            if kind == wanted {
-                Ok(line)
-            } else {
-                Err(CertFault::WrongOrder(number))
-            }
-        }
+    let (kind, line) = take_any(lines, version)?;
+    if kind == wanted {
+        Ok(line)
+    } else {
+        Err(CertFault::WrongOrder(number))
     }
 }
 

@@ -11,5 +11,7 @@ pub use Rattle.certificates.proofs.Words.{token-back, bytes-same}
 -- the words of a line that has a form; the word that tells a kind
 pub use Rattle.certificates.proofs.FormLemmas.{plain-words, placed-text}
 pub use Rattle.certificates.proofs.PartLemmas.{kind-is}
+-- a spot and the rows of a table from their text
+pub use Rattle.certificates.proofs.PlacedLemmas.{spot-written, table-written}
 -- what a value that may be `None` is made of
 pub use Rattle.certificates.proofs.Somes.{both_some, tested, and_parts}

@@ -96,7 +96,7 @@ spot-read w x h = at (bytes_eq w (45 ∷ [])) refl h
         let s = spot-is w q.0.0 q.0.1 q.0.2 q.1 in
         subst (λ (y : SearchSpot). IsSpotOrStart y × (w ≡ spot_or_start_text y)) (same_Some (Some q.0) x q.2) ((s.0, s.1, s.2), s.3)
 
-spot-written : (x : SearchSpot) → IsSpotOrStart x → spot_or_start_of (spot_or_start_text x) ≡ Some x
+pub spot-written : (x : SearchSpot) → IsSpotOrStart x → spot_or_start_of (spot_or_start_text x) ≡ Some x
 spot-written None h = refl
 spot-written (Some p) h =
     let w : List ℕ = spot_text p.0 p.1 p.2 in
@@ -180,7 +180,7 @@ table-read w rows h = at (bytes_eq w (45 ∷ [])) refl h
         subst (λ (rs : SheetRows). AreRows rs × (w ≡ table_text rs)) (same_Some q.0 rows t.1)
         (record { even = t.0; entries = a.0 }, sym (join_with_byte-slice_split 47 w) ∙ (ap (join_with_byte 47) a.1 ∙ some_row (slice_split (λ b. eqb b 47) w) q.0 a.1 (omega (arith, length-slice_split (λ b. eqb b 47) w))))
 
-table-written : (rows : SheetRows) → AreRows rows → table_of (table_text rows) ≡ Some rows
+pub table-written : (rows : SheetRows) → AreRows rows → table_of (table_text rows) ≡ Some rows
 table-written [] h = refl
 table-written (row ∷ rows) h =
     let w : List ℕ = rows_text (row ∷ rows) in

@@ -22,5 +22,6 @@ pub use kind::Kind;
 pub use laws::forms_are_spelled;
 pub use lines::{CoverLine, Line, PairLine, ProductLine};
 pub use lists::{CoverLines, LinesByDegree, PairLines, ProductLines};
+pub use places::{put_cover, put_spot};
 pub use token::Token;
 pub use write::{write_back, write_cover, write_front, write_section};

@@ -29,8 +29,8 @@ pub(crate) fn put_sheets<K: Sink>(
     put_text(sink, held, b"\n")
 }
 
-/// Puts the line of a cover.
-pub(crate) fn put_cover<K: Sink>(sink: &mut K, held: &mut Held, table: &Table) -> Result<(), Failed>
+/// Puts the line of a cover behind what a buffer holds back. It takes no memory.
+pub fn put_cover<K: Sink>(sink: &mut K, held: &mut Held, table: &Table) -> Result<(), Failed>
     ensures bytes { let text = cover_text table.now.sheets table.now.columns table.now.cells in
         Gathers (K.written sink.old) (K.written sink.new) held.old held.new text result }
     ensures cause { HasCause (K.faults sink.old) (K.faults sink.new) result }
@@ -40,8 +40,8 @@ pub(crate) fn put_cover<K: Sink>(sink: &mut K, held: &mut Held, table: &Table) -
     put_text(sink, held, b"\n")
 }
 
-/// Puts a spot, `-` for the start.
-pub(crate) fn put_spot<K: Sink>(sink: &mut K, held: &mut Held, spot: &Spot) -> Result<(), Failed>
+/// Puts the text of a spot, `-` for the start, behind what a buffer holds back. It takes no memory.
+pub fn put_spot<K: Sink>(sink: &mut K, held: &mut Held, spot: &Spot) -> Result<(), Failed>
     ensures bytes { Gathers (K.written sink.old) (K.written sink.new) held.old held.new
         (spot_or_start_text (spot_of spot.now)) result }
     ensures cause { HasCause (K.faults sink.old) (K.faults sink.new) result }

@@ -1,5 +1,7 @@
 // Which line it is, and what its words are read as.
-use cert_lines::{LineKind, entries_at, entries_behind_bar, line_kind, number_at, rising_at};
+use cert_lines::{
+    LineKind, entries_at, entries_behind_bar, line_kind, number_at, rising_at, spot_at, table_at,
+};
 use certificates::Kind;
 use small_field::{Entry, Sparse};
 use std::test::Fail;
@@ -84,5 +86,29 @@ fn the_first_list_is_read(rt: HostRuntime) -> Result<(), Fail> {
 fn the_list_behind_the_bar_is_read(rt: HostRuntime) -> Result<(), Fail> {
     let list = entries_behind_bar(rt.alloc(), b"p 1 1 2 1 2:4 | 3:1", 5, 3)?;
     assert!(rt; is_entry(list, 3, 1));
+    Ok(())
+}
+
+#[test]
+fn a_spot_is_read(rt: HostRuntime) -> Result<(), Fail> {
+    let spot = spot_at(rt.alloc(), b"sheets 3 from 12/3:2,3", 2)?;
+    assert!(rt;
+        spot.is_some_and(|found| found.component() == 12
+            && found.position().cells() == [2u8, 3].as_slice())
+    );
+    Ok(())
+}
+
+#[test]
+fn a_table_is_read(rt: HostRuntime) -> Result<(), Fail> {
+    let table = table_at(rt.alloc(), b"cover 2 1,2/2,1", 1, 2, 2)?;
+    assert!(rt; table.is_some_and(|found| found.cells() == [1u8, 2, 2, 1].as_slice()));
+    Ok(())
+}
+
+#[test]
+fn a_table_of_other_rows_is_refused(rt: HostRuntime) -> Result<(), Fail> {
+    let table = table_at(rt.alloc(), b"cover 2 1,2/2,1", 1, 3, 2)?;
+    assert!(rt; table.is_none());
     Ok(())
 }

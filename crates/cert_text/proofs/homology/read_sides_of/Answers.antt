@@ -3,8 +3,8 @@ use Rattle.certificates.specs.declared.lines.Line.{Line}
 use Rattle.certificates.specs.Degrees.{at}
 use Rattle.cert_text.specs.Readers.{many}
 use Rattle.cert_text.specs.Reading.{read_sides}
-use Rattle.cert_text.specs.Taking.{lists_if}
-use Rattle.cert_text.proofs.Loops.{onto, many-more, many-broken}
+use Rattle.cert_text.specs.Taking.{lists_if, onto}
+use Rattle.cert_text.proofs.Loops.{many-more, many-broken}
 use Rattle.cert_text.proofs.SideLemmas.{list-more}
 use Rattle.cert_text.proofs.TakingLemmas.{breaks}
 use Rattle.cert_text.proofs.homology.read_sides_of.Goals as goal

@@ -4,7 +4,7 @@ use Rattle.certificates.specs.Degrees.{at}
 use Rattle.cert_text.specs.Readers.{many}
 use Rattle.cert_text.specs.Reading.{read_sides}
 use Rattle.cert_text.specs.Taking.{lists_if}
-use Rattle.cert_text.proofs.Loops.{onto}
+use Rattle.cert_text.specs.Taking.{onto}
 use Rattle.cert_text.proofs.homology.read_sides_of.Given as goal
 
 abbrev pub invariant-lines : goal.invariant-lines

@@ -2,7 +2,8 @@ use Rattle.std.proofs.Common.{◌≤◌, ◌∙◌, ◌-◌, sym, ap, arith, Lis
 use Rattle.certificates.specs.declared.lines.PairLine.{PairLine}
 use Rattle.cert_text.specs.Readers.{many}
 use Rattle.cert_text.specs.Reading.{read_pair}
-use Rattle.cert_text.proofs.Loops.{onto, many-more, many-broken}
+use Rattle.cert_text.specs.Taking.{onto}
+use Rattle.cert_text.proofs.Loops.{many-more, many-broken}
 use Rattle.cert_text.proofs.TakingLemmas.{breaks}
 use Rattle.cert_text.proofs.pairs.read_pairs.Goals as goal
 

@@ -1,7 +1,7 @@
 use Rattle.std.proofs.Common.{◌≡◌}
 use Rattle.cert_text.specs.Readers.{many}
 use Rattle.cert_text.specs.Reading.{read_pair}
-use Rattle.cert_text.proofs.Loops.{onto}
+use Rattle.cert_text.specs.Taking.{onto}
 use Rattle.cert_text.proofs.pairs.read_pairs.Given as goal
 
 abbrev pub invariant-pairs : goal.invariant-pairs

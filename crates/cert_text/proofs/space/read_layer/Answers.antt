@@ -3,7 +3,8 @@ use Rattle.std.specs.Prelude.{slice_set}
 use Rattle.face_poset.specs.Poset.{layer}
 use Rattle.cert_text.specs.Readers.{many}
 use Rattle.cert_text.specs.Reading.{read_face}
-use Rattle.cert_text.proofs.Loops.{onto, many-more, many-broken, length-more}
+use Rattle.cert_text.specs.Taking.{onto}
+use Rattle.cert_text.proofs.Loops.{many-more, many-broken, length-more}
 use Rattle.cert_text.proofs.LayerLemmas.{layer-more}
 use Rattle.cert_text.proofs.TakingLemmas.{breaks}
 use Rattle.cert_text.proofs.space.read_layer.Goals as goal

@@ -8,12 +8,11 @@ use Rattle.std.proofs.lemmas.List.Folds.{list_all-append}
 use Rattle.certificates.specs.Placed.{SheetRows}
 use Rattle.certificates.specs.Cert.{cut_rows, rows_of}
 use Rattle.certificates.specs.WellFormed.{is_between}
-use Rattle.cert_text.specs.Reading.{rows_fit}
-use Rattle.cert_text.proofs.Passing.{and-parts, and-both}
+use Rattle.certificates.proofs.CallerLemmas.{and_parts}
+use Rattle.cert_lines.specs.Tables.{row_fits, rows_fit}
 
--- a row of so many entries, each a sheet
-abbrev row_test : (columns sheets : ℕ) → List ℕ → Bool
-row_test columns sheets row = eqb (length row) columns && list_all (is_between 1 sheets) row
+and-both : (a b : Bool) → a ≡ true → b ≡ true → (a && b) ≡ true
+and-both a b p q = cc
 
 take-first : (xs ys : List ℕ) (n : ℕ) → length xs ≡ n → take n (xs ++ ys) ≡ xs
 take-first xs ys n e = ap (λ (k : ℕ). take k (xs ++ ys)) (sym e) ∙ take-append_seam xs ys
@@ -26,12 +25,12 @@ none_times a b e = let z : 0 ≡ a * 0 = omega arith in z ∙ ap (λ (n : ℕ). 
 
 -- ---- from rows to cells
 
-pub cut-concat : (columns sheets : ℕ) (rows : SheetRows) → list_all (row_test columns sheets) rows ≡ true
+pub cut-concat : (columns sheets : ℕ) (rows : SheetRows) → list_all (row_fits columns sheets) rows ≡ true
     → (cut_rows (length rows) columns (concat rows) ≡ rows) × (length (concat rows) ≡ length rows * columns) × (list_all (is_between 1 sheets) (concat rows) ≡ true)
 cut-concat columns sheets [] h = (refl, (let e : 0 ≡ 0 * columns = omega arith in e), refl)
 cut-concat columns sheets (row ∷ rows) h =
-    let p = and-parts (row_test columns sheets row) (list_all (row_test columns sheets) rows) h in
-    let q = and-parts (eqb (length row) columns) (list_all (is_between 1 sheets) row) p.0 in
+    let p = and_parts (row_fits columns sheets row) (list_all (row_fits columns sheets) rows) h in
+    let q = and_parts (eqb (length row) columns) (list_all (is_between 1 sheets) row) p.0 in
     let long : length row ≡ columns = eqb-true (length row) columns q.0 in
     let rest = cut-concat columns sheets rows p.1 in (
       (λ i. take-first row (concat rows) columns long i ∷ (ap (cut_rows (length rows) columns) (drop-first row (concat rows) columns long) ∙ rest.0) i),
@@ -45,17 +44,17 @@ cut-concat columns sheets (row ∷ rows) h =
 -- ---- from cells to rows
 
 pub cut-cells : (columns sheets m : ℕ) (cells : List ℕ) → length cells ≡ m * columns → list_all (is_between 1 sheets) cells ≡ true
-    → (concat (cut_rows m columns cells) ≡ cells) × (length (cut_rows m columns cells) ≡ m) × (list_all (row_test columns sheets) (cut_rows m columns cells) ≡ true)
+    → (concat (cut_rows m columns cells) ≡ cells) × (length (cut_rows m columns cells) ≡ m) × (list_all (row_fits columns sheets) (cut_rows m columns cells) ≡ true)
 cut-cells columns sheets zero [] long h = (refl, refl, refl)
 cut-cells columns sheets zero (c ∷ cells) long h = absurd (omega (arith, long))
 cut-cells columns sheets (suc m) cells long h =
     let whole : list_all (is_between 1 sheets) (take columns cells ++ drop columns cells) ≡ true = ap (list_all (is_between 1 sheets)) (take-append-drop columns cells) ∙ h in
-    let q = and-parts (list_all (is_between 1 sheets) (take columns cells)) (list_all (is_between 1 sheets) (drop columns cells)) (sym (list_all-append (is_between 1 sheets) (take columns cells) (drop columns cells)) ∙ whole) in
+    let q = and_parts (list_all (is_between 1 sheets) (take columns cells)) (list_all (is_between 1 sheets) (drop columns cells)) (sym (list_all-append (is_between 1 sheets) (take columns cells) (drop columns cells)) ∙ whole) in
     let first : length (take columns cells) ≡ columns = length-take-le columns cells (fewer columns m (length cells) long) in
     let rest = cut-cells columns sheets m (drop columns cells) (left_over columns m (length cells) (length (drop columns cells)) long (length-drop columns cells)) q.1 in (
       ap (λ (ys : List ℕ). take columns cells ++ ys) rest.0 ∙ take-append-drop columns cells,
       ap suc rest.1,
-      and-both (row_test columns sheets (take columns cells)) (list_all (row_test columns sheets) (cut_rows m columns (drop columns cells)))
+      and-both (row_fits columns sheets (take columns cells)) (list_all (row_fits columns sheets) (cut_rows m columns (drop columns cells)))
           (and-both (eqb (length (take columns cells)) columns) (list_all (is_between 1 sheets) (take columns cells)) (eq-eqb (length (take columns cells)) columns first) q.0) rest.2,
     )
   where
@@ -80,16 +79,16 @@ rows-there columns sheets [] h =
     let none : columns ≡ 0 = eqb-true columns 0 h in
     (ap (λ (t : Bool). cond t [] (cut_rows sheets columns [])) (eq-eqb columns 0 none), none_times sheets columns none, refl)
 rows-there columns sheets (row ∷ rows) h =
-    let p = and-parts (not (eqb columns 0) && eqb (length (row ∷ rows)) sheets) (list_all (row_test columns sheets) (row ∷ rows)) h in
-    let q = and-parts (not (eqb columns 0)) (eqb (length (row ∷ rows)) sheets) p.0 in
+    let p = and_parts (not (eqb columns 0) && eqb (length (row ∷ rows)) sheets) (list_all (row_fits columns sheets) (row ∷ rows)) h in
+    let q = and_parts (not (eqb columns 0)) (eqb (length (row ∷ rows)) sheets) p.0 in
     let long : length (row ∷ rows) ≡ sheets = eqb-true (length (row ∷ rows)) sheets q.1 in
     let c = cut-concat columns sheets (row ∷ rows) p.1 in
     (of-rows sheets columns (concat (row ∷ rows)) (not_zero columns q.0) ∙ (ap (λ (m : ℕ). cut_rows m columns (concat (row ∷ rows))) (sym long) ∙ c.0), c.1 ∙ ap (λ (m : ℕ). m * columns) long, c.2)
 
-some-rows : (columns sheets : ℕ) (rows : SheetRows) → columns ≢ 0 → 1 ≤ sheets → length rows ≡ sheets → list_all (row_test columns sheets) rows ≡ true → rows_fit columns sheets rows ≡ true
+some-rows : (columns sheets : ℕ) (rows : SheetRows) → columns ≢ 0 → 1 ≤ sheets → length rows ≡ sheets → list_all (row_fits columns sheets) rows ≡ true → rows_fit columns sheets rows ≡ true
 some-rows columns sheets [] ne some long h = absurd (omega (arith, some, long))
 some-rows columns sheets (row ∷ rows) ne some long h =
-    and-both (not (eqb columns 0) && eqb (length (row ∷ rows)) sheets) (list_all (row_test columns sheets) (row ∷ rows))
+    and-both (not (eqb columns 0) && eqb (length (row ∷ rows)) sheets) (list_all (row_fits columns sheets) (row ∷ rows))
     (and-both (not (eqb columns 0)) (eqb (length (row ∷ rows)) sheets) (ap not (ne_eqb columns 0 ne)) (eq-eqb (length (row ∷ rows)) sheets long)) h
 
 -- the rows of cells that fit do, and have these cells
