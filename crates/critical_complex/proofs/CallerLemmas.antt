@@ -1,4 +1,4 @@
 -- What other crates may cite of the proofs here.
 
 -- there are at most as many critical cells as cells
-pub use Rattle.critical_complex.proofs.Placed.{criticals_few}
+pub use Rattle.pair_stages.proofs.CallerLemmas.{criticals_few}

@@ -1,17 +1,5 @@
 pub mod CallerLemmas
-mod ColumnLemmas
-mod Cuts
-mod Filling
-mod Flows
-mod Indexed
 mod Kept
-mod KindLemmas
-mod Matching
-mod Pairwise
-mod Placed
-mod Rows
-mod Searched
-mod SignedLemmas
-mod Sparse
-mod UnitLemmas
-mod Viewed
+mod LevelLemmas
+mod Reductions
+mod UnitsOf

@@ -1,14 +1,9 @@
--- What the contracts mean: Splits, Stages, Signed, Units, and of Filled the rows that are not zero.
--- What the code keeps for itself: Columns, Reaches, Blanks.
+-- What the contracts mean: Levels and Complex. What the code keeps for itself: Stages.
 -- Words of lower crates that these speak of stand at the end.
-pub mod Splits
+pub mod Levels
+pub mod Complex
 pub mod Stages
-pub mod Signed
-pub mod Units
-pub mod Filled
-pub mod Columns
-pub mod Reaches
-pub mod Blanks
+pub use Rattle.pair_stages.specs.Signed
 pub use Rattle.split_laws.specs.Kinds
 pub use Rattle.split_laws.specs.Solutions
 pub use Rattle.split_laws.specs.Vectors

@@ -1,49 +1,50 @@
 // The reduction of a signed set to the critical cells of a field of pairs.
-ghost use Rattle.std.specs.Prelude.{◌≡◌, ◌+◌, ◌<◌, ◌≤◌, ℕ, suc, length, IfOk};
+ghost use Rattle.std.specs.Prelude.{◌≡◌, ◌+◌, ◌<◌, ◌≤◌, length, IfOk};
 ghost use Rattle.vector_field.specs.Pairs.{IsFieldOf};
 ghost use Rattle.split_laws.specs.Kinds.{criticals, uppers};
-ghost use Rattle.critical_complex.specs.Stages.{critical_from, IsPaired};
-ghost use Rattle.critical_complex.specs.Reaches.{AreDegrees};
-ghost use Rattle.critical_complex.specs.Units.{pair_at, IsTriangular, IsUnitOf, MatchUppers};
-ghost use Rattle.critical_complex.specs.Splits.{stage_at, cells_at, kinds_at, AreFilled, AreFilledAt};
-ghost use Rattle.critical_complex.specs.Splits.{IsClearedAt, IsExtensionAt, IsFilledAt, IsFlowAt};
-ghost use Rattle.critical_complex.specs.Splits.{IsReducedAt, IsReductionOf, IsSplitting};
+ghost use Rattle.pair_stages.specs.Stages.{critical_from};
+ghost use Rattle.pair_stages.specs.Splits.{AreStagesOf};
+ghost use Rattle.critical_complex.specs.Levels.{cells_at, kinds_at, units_at, AreFilledAt};
+ghost use Rattle.critical_complex.specs.Levels.{IsClearedAt, IsExtensionAt, IsFilledAt, IsFlowAt, IsReducedAt};
+ghost use Rattle.critical_complex.specs.Complex.{unit_at, IsReducedComplex, IsReductionOf};
+ghost use Rattle.critical_complex.specs.Stages.{AreFilled};
 
-use crate::cleared::Cleared;
-use crate::coboundary::filled_rows;
-use crate::filled::Filled;
-use crate::flow::{flow, flow_first};
-use crate::stage::Stage;
-use crate::unit::Unit;
 use face_poset::Signed;
 use field_matrix::{Matrix, Row};
+use pair_stages::{Cleared, Filled, Stages, Unit};
 use small_field::{Cochain, Field};
 use std::alloc::{AllocError, Global};
 use std::marker::Model;
 use vector_field::PairList;
 
-/// A signed set with a field of pairs, reduced to the critical cells. Contracts see, for each degree, the
-/// rows of the coboundary, the kinds of the cells and the pairs. Cells are numbered from 1, and places from 0.
+/// A complex reduced to critical cells. Contracts see, for each of five degrees, the rows of the coboundary, the kinds
+/// of the cells and the units. Cells are numbered from 1, and places from 0.
 #[derive(Drop)]
 pub struct Reduced<F: Field> {
-    stages: Vec<Stage<F>>,
+    stages: Stages<F>,
     filled: Vec<Filled<F>>,
 }
 
 impl<F: Field> Model for Reduced<F> {
     ghost use Rattle.std.specs.Prelude.{List};
-    ghost use Rattle.critical_complex.specs.Stages.{Stage};
-    ghost use Rattle.critical_complex.specs.Splits.{AreFilled, IsSplitting};
+    ghost use Rattle.pair_stages.specs.Splits.{IsSplitting};
+    ghost use Rattle.critical_complex.specs.Levels.{Level};
+    ghost use Rattle.critical_complex.specs.Complex.{IsReducedComplex};
+    ghost use Rattle.critical_complex.specs.Stages.{levels_of, AreFilled};
 
-    ghost Value = { List Stage };
+    ghost Value = { List Level };
 
-    ghost view = { λ s. s.stages.items };
+    ghost view = { λ s. levels_of s.stages };
 
-    ghost invariant = { λ s. IsSplitting F.ops s.stages.items × AreFilled F.ops s.stages.items 4 s.filled.items };
+    ghost invariant = { λ s.
+        IsReducedComplex F.ops (levels_of s.stages)
+        × IsSplitting F.ops s.stages
+        × AreFilled F.ops s.stages 4 s.filled.items };
 }
 
 impl<F: Field> Reduced<F> {
-    /// The reduction of a signed set to the critical cells of a field of pairs on it.
+    /// The reduction of a signed set to the critical cells of a field of pairs on it. There is a unit for each pair, in
+    /// the order of the field: its lower and its upper, each with the value 1.
     pub fn new<G: Signed>(
         alloc: Global,
         graded: &G,
@@ -52,9 +53,9 @@ impl<F: Field> Reduced<F> {
         requires { IsFieldOf (G.space graded.now) field.now }
         ensures reduction { IfOk result
             (IsReductionOf F.ops (G.space graded.now) (G.negative graded.now) field.now.pairs) }
-        ensures splitting { IfOk result (IsSplitting F.ops) }
+        ensures complex { IfOk result (IsReducedComplex F.ops) }
     {
-        let stages = list_stages(alloc, graded, field)?;
+        let stages = Stages::new(alloc, graded, field)?;
         let filled = list_filled(alloc, graded, &stages)?;
         Ok(Reduced { stages, filled })
     }
@@ -63,9 +64,9 @@ impl<F: Field> Reduced<F> {
     pub fn critical(&self, dim: u8) -> &[u32]
         requires { dim ≤ 3 }
         ensures critical { result.now ≡ critical_from 1 (kinds_at self.now dim) }
-        ensures splitting { IsSplitting F.ops self.now }
+        ensures complex { IsReducedComplex F.ops self.now }
     {
-        self.stages[dim as usize].critical()
+        self.stages.critical(dim)
     }
 
     /// How many critical cells of a degree there are.
@@ -73,7 +74,7 @@ impl<F: Field> Reduced<F> {
         requires { dim ≤ 3 }
         ensures { result ≡ criticals (kinds_at self.now dim) }
     {
-        self.stages[dim as usize].criticals()
+        self.stages.criticals(dim)
     }
 
     /// The places, from 0 and increasing, of the reduced rows of a degree that are not zero. A reduced row stands
@@ -91,7 +92,7 @@ impl<F: Field> Reduced<F> {
         requires { dim ≤ 3 }
         ensures cols { result.now.cols ≡ criticals (kinds_at self.now (dim + 1)) }
         ensures rows { AreFilledAt F.ops self.now dim result.now.rows }
-        ensures splitting { IsSplitting F.ops self.now }
+        ensures complex { IsReducedComplex F.ops self.now }
     {
         self.filled[dim as usize].rows()
     }
@@ -101,9 +102,9 @@ impl<F: Field> Reduced<F> {
         requires { dim ≤ 3 }
         ensures cols { IfOk result (λ m. m.cols ≡ criticals (kinds_at self.now (dim + 1))) }
         ensures rows { IfOk result (λ m. IsReducedAt F.ops self.now dim m.rows) }
-        ensures splitting { IsSplitting F.ops self.now }
+        ensures complex { IsReducedComplex F.ops self.now }
     {
-        let count = self.stages[dim as usize].criticals();
+        let count = self.stages.criticals(dim);
         let whole = self.filled[dim as usize].whole(alloc, count)?;
         Ok(whole)
     }
@@ -115,9 +116,7 @@ impl<F: Field> Reduced<F> {
         requires values { length w.now ≡ criticals (kinds_at self.now dim) }
         ensures { IfOk result (IsExtensionAt F.ops self.now dim w.now) }
     {
-        let stages: &[Stage<F>] = &self.stages;
-        let stage = &stages[dim as usize];
-        stage.extension(alloc, &stages[dim as usize + 1], w)
+        self.stages.extend(alloc, dim, w)
     }
 
     /// The one chain that has these values at the critical cells and is 0 on lowers, and whose boundary is 0 on
@@ -127,11 +126,7 @@ impl<F: Field> Reduced<F> {
         requires values { length c.now ≡ criticals (kinds_at self.now dim) }
         ensures { IfOk result (IsFlowAt F.ops self.now dim c.now) }
     {
-        let stages: &[Stage<F>] = &self.stages;
-        if dim == 0 {
-            return flow_first(alloc, &stages[0], c);
-        }
-        flow(alloc, &stages[dim as usize - 1], &stages[dim as usize], c)
+        self.stages.flow(alloc, dim, c)
     }
 
     /// Clears a cochain: the one cochain of one degree less, on its lowers, whose coboundary is the cochain on
@@ -141,72 +136,45 @@ impl<F: Field> Reduced<F> {
         requires cochain { length x.now ≡ cells_at self.now dim }
         ensures { IfOk result (λ r. IsClearedAt F.ops self.now dim x.now r.w r.y) }
     {
-        let stages: &[Stage<F>] = &self.stages;
-        if dim == 0 {
-            return stages[0].clearing_first(alloc, x);
-        }
-        stages[dim as usize - 1].clearing(alloc, &stages[dim as usize], x)
+        self.stages.clear(alloc, dim, x)
     }
 
     /// How many units there are: as many as uppers of one degree more, each of which is the right side of exactly
     /// one.
     pub fn units(&self, dim: u8) -> u32
         requires { dim ≤ 3 }
-        ensures pairs { result ≡ length (stage_at self.now dim).pairs }
+        ensures units { result ≡ length (units_at self.now dim) }
         ensures uppers { result ≡ uppers (kinds_at self.now (dim + 1)) }
-        ensures each { MatchUppers (stage_at self.now dim).pairs (kinds_at self.now (dim + 1)) }
+        ensures complex { IsReducedComplex F.ops self.now }
     {
-        self.stages[dim as usize].units()
+        self.stages.units(dim)
     }
 
-    /// A unit: the lower of a pair with the value 1, and its upper with the value 1. The coboundary of its left
-    /// side is not zero on its own right side, and zero on the right side of each smaller index.
+    /// The unit of an index, which counts from 0: a cochain on lowers, and an upper of one degree more with the
+    /// value 1. The coboundary of its left side is not zero on its own right side, and zero on the right side of each
+    /// smaller index.
     pub fn unit(&self, alloc: Global, dim: u8, index: u32) -> Result<Unit, AllocError>
         requires degree { dim ≤ 3 }
-        requires index { index < length (stage_at self.now dim).pairs }
-        ensures unit { IfOk result (IsUnitOf (pair_at (stage_at self.now dim).pairs index)) }
-        ensures triangular { IfOk result
-            (IsTriangular F.ops (stage_at self.now dim) (stage_at self.now (dim + 1)) index) }
+        requires index { index < length (units_at self.now dim) }
+        ensures unit { IfOk result (λ u. u ≡ unit_at (units_at self.now dim) index) }
+        ensures complex { IsReducedComplex F.ops self.now }
     {
-        let stages: &[Stage<F>] = &self.stages;
-        stages[dim as usize].unit(alloc, &stages[dim as usize + 1], index)
+        self.stages.unit(alloc, dim, index)
     }
-}
-
-/// What is kept of each degree.
-fn list_stages<F: Field, G: Signed>(
-    alloc: Global,
-    graded: &G,
-    field: &PairList,
-) -> Result<Vec<Stage<F>>, AllocError>
-    requires { IsFieldOf (G.space graded.now) field.now }
-    ensures { IfOk result (λ stages.
-        IsReductionOf F.ops (G.space graded.now) (G.negative graded.now) field.now.pairs stages.items) }
-{
-    let mut stages = Vec::new(alloc);
-    for dim in 0..5 {
-        stages.push(Stage::of_signed(alloc, graded, field, dim)?)?;
-    }
-    Ok(stages)
 }
 
 /// The coboundaries of the extensions that are not zero, for each degree.
 fn list_filled<F: Field, G: Signed>(
     alloc: Global,
     graded: &G,
-    stages: &[Stage<F>],
+    stages: &Stages<F>,
 ) -> Result<Vec<Filled<F>>, AllocError>
-    requires splitting { IsSplitting F.ops stages.now }
-    requires degrees { (degree : ℕ) → degree < 4
-        → AreDegrees F.ops (G.space graded.now) (G.negative graded.now) degree (stage_at stages.now degree)
-        (stage_at stages.now (suc degree)) }
+    requires { AreStagesOf F.ops (G.space graded.now) (G.negative graded.now) stages.now }
     ensures { IfOk result (λ filled. AreFilled F.ops stages.now 4 filled.items) }
 {
     let mut filled = Vec::new(alloc);
     for dim in 0..4 {
-        let stage = &stages[dim as usize];
-        let next = &stages[dim as usize + 1];
-        filled.push(filled_rows(alloc, graded, dim, stage, next)?)?;
+        filled.push(stages.filled(alloc, graded, dim)?)?;
     }
     Ok(filled)
 }

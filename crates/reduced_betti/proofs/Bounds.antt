@@ -8,8 +8,7 @@ use Rattle.linear_laws.proofs.CallerLemmas.{nonzero_few, same_rank}
 use Rattle.field_matrix.proofs.CallerLemmas.{few_pivots}
 use Rattle.split_laws.specs.declared.kind.Kind.{Kind}
 use Rattle.split_laws.specs.Kinds.{criticals}
-use Rattle.critical_complex.specs.Stages.{Stage}
-use Rattle.critical_complex.specs.Splits.{kinds_at, AreFilledAt}
+use Rattle.critical_complex.specs.Levels.{Level, kinds_at, AreFilledAt}
 use Rattle.critical_complex.proofs.CallerLemmas.{criticals_few}
 use Rattle.reduced_betti.specs.Ranks.{HasRank}
 
@@ -27,10 +26,10 @@ module _ (F : Ops) (cols rank : ℕ) (rows after : List (List ℕ)) (h : IsReduc
       omega arith
 
   -- the rank of a copy of the reduced rows that are not zero
-  pub has_rank : IsField F → (stages : List Stage) (degree r : ℕ) (source : List (List ℕ)) → cols ≡ criticals (kinds_at stages (degree + 1)) → rows ≡ source → r ≡ rank
-      → AreFilledAt F stages degree source → HasRank F stages degree r
-  has_rank L stages degree r source e f k by =
-      let n : ℕ = criticals (kinds_at stages (degree + 1)) in
+  pub has_rank : IsField F → (levels : List Level) (degree r : ℕ) (source : List (List ℕ)) → cols ≡ criticals (kinds_at levels (degree + 1)) → rows ≡ source → r ≡ rank
+      → AreFilledAt F levels degree source → HasRank F levels degree r
+  has_rank L levels degree r source e f k by =
+      let n : ℕ = criticals (kinds_at levels (degree + 1)) in
       let nonzero : IsReducedTo F n rank n (nonzero_rows by.all) after =
       subst (λ (ws : List (List ℕ)). IsReducedTo F n rank n ws after) (f ∙ by.are) (subst (λ (m : ℕ). IsReducedTo F m rank m rows after) e h) in
       let all = same_rank F L n rank by.all after by.reduced.matrix nonzero in
@@ -42,8 +41,8 @@ module _ (F : Ops) (cols rank : ℕ) (rows after : List (List ℕ)) (h : IsReduc
       }
 
 -- the rows that are not zero are at most all rows
-pub few_filled : (F : Ops) (stages : List Stage) (degree : ℕ) (source : List (List ℕ)) → AreFilledAt F stages degree source → length source ≤ criticals (kinds_at stages degree)
-few_filled F stages degree source by =
+pub few_filled : (F : Ops) (levels : List Level) (degree : ℕ) (source : List (List ℕ)) → AreFilledAt F levels degree source → length source ≤ criticals (kinds_at levels degree)
+few_filled F levels degree source by =
     let few : length (nonzero_rows by.all) ≤ length by.all = nonzero_few by.all in
     omega (arith, few, by.reduced.long, ap (λ (rows : List (List ℕ)). length rows) by.are)
 

@@ -1,7 +1,7 @@
--- The chains with a field of pairs as a complex with a split, and the ranks of its reduced rows.
+-- The ranks of the reduced rows of the chains with a field of pairs.
 use Rattle.std.proofs.Common.{◌≡◌, ℕ, zero, suc, ◌+◌, ◌*◌, ◌<◌, ◌≤◌, List, [], ◌∷◌, length, replicate, refl, ap, sym, ◌∙◌, subst, arith}
 use Rattle.std.specs.List.{AllByRecursion}
-use Rattle.std.proofs.lemmas.List.{length-replicate, get_or-replicate, get_or_past, nil_from_length}
+use Rattle.std.proofs.lemmas.List.{length-replicate, get_or-replicate}
 use Rattle.face_poset.specs.Poset.{Layers}
 use Rattle.small_field.specs.Field.{Ops, IsField}
 use Rattle.face_poset.specs.declared.cells.Pair.{Pair}
@@ -9,43 +9,24 @@ use Rattle.linear_laws.specs.Vectors.{combination, entry, IsMatrix}
 use Rattle.linear_laws.specs.Echelon.{IsReducedTo}
 use Rattle.linear_laws.specs.Betti.{IsCohomologyBasis}
 use Rattle.linear_laws.specs.Laws.{BasisByRanks}
-use Rattle.linear_laws.proofs.CallerLemmas.{zeros-elements}
 use Rattle.order_complex.specs.Chains.{chains_of}
 use Rattle.order_complex.specs.Complex.{complex_of, negative_in}
 use Rattle.order_complex.specs.Homology.{IsBetti}
 use Rattle.order_complex.specs.Ranks.{rows_of, rows_into}
-use Rattle.order_complex.proofs.CallerLemmas.{chains_of-four, basis_of, composition_is_zero, count-chains}
+use Rattle.order_complex.proofs.CallerLemmas.{chains_of-four, basis_of, count-chains}
 use Rattle.split_laws.specs.declared.kind.Kind.{Kind}
-use Rattle.split_laws.specs.declared.kind.Kind.TheVariants.{Critical, Lower, Upper}
-use Rattle.split_laws.specs.Kinds.{criticals, HasNoUpper, AgreeOnUppers, ZeroOffUppers}
-use Rattle.split_laws.specs.Split.{IsSplit}
+use Rattle.split_laws.specs.Kinds.{criticals}
 use Rattle.split_laws.specs.Solutions.{IsReducedBy}
-use Rattle.split_laws.specs.Complex.{before, IsSplitComplex, AreReduced}
-use Rattle.split_laws.specs.Laws.{FieldsSplit, ReducedIsClosed, BettiByReducedRanks}
-use Rattle.critical_complex.specs.Stages.{Stage, empty_stage}
-use Rattle.critical_complex.specs.Splits.{stage_at, kinds_at, cells_at, rows_at, IsReductionOf, IsSplitting}
+use Rattle.split_laws.specs.Complex.{before, AreReduced}
+use Rattle.split_laws.specs.Laws.{ReducedIsClosed, BettiByReducedRanks}
+use Rattle.critical_complex.specs.Levels.{Level, kinds_at, cells_at, rows_at}
+use Rattle.critical_complex.specs.Complex.{IsReducedComplex, IsReductionOf}
 use Rattle.order_complex.specs.declared.betti.Betti.{Betti}
 use Rattle.order_complex.specs.Numbers.{AreBetti, coboundary_entries}
 use Rattle.reduced_betti.specs.Ranks.{AreRanks, critical_entries}
 use Rattle.reduced_betti.proofs.Bounds.{few_entries}
 use Rattle.reduced_betti.specs.declared.ranks.Ranks.{Ranks}
 use Rattle.reduced_betti.proofs.SignedRows.{signed-rows_of}
-
--- ---- kinds
-
-agree_without : (us : List Kind) (xs ys : List ℕ) → HasNoUpper us → length xs ≡ length us → length ys ≡ length us → AgreeOnUppers us xs ys
-agree_without [] xs ys h a b = tt
-agree_without (u ∷ us) [] ys h a b = absurd (omega (arith, a))
-agree_without (u ∷ us) (x ∷ xs) [] h a b = absurd (omega (arith, b))
-agree_without (Critical ∷ us) (x ∷ xs) (y ∷ ys) h a b = agree_without us xs ys h (omega (arith, a)) (omega (arith, b))
-agree_without (Lower ∷ us) (x ∷ xs) (y ∷ ys) h a b = agree_without us xs ys h (omega (arith, a)) (omega (arith, b))
-agree_without (Upper ∷ us) (x ∷ xs) (y ∷ ys) h a b = absurd h
-
-zero_off : (us : List Kind) → ZeroOffUppers us (replicate (length us) 0)
-zero_off [] = refl
-zero_off (Critical ∷ us) = (refl, zero_off us)
-zero_off (Lower ∷ us) = (refl, zero_off us)
-zero_off (Upper ∷ us) = zero_off us
 
 within : (old now a b c : ℕ) → now ≤ old + a → a ≤ b → b ≡ c → now ≤ old + c
 within old now a b c l w e = omega (arith, l, w, e)
@@ -70,34 +51,9 @@ module _ (F : Ops) (L : IsField F) where
     };
   }
 
-  combinations_of_nothing : (n : ℕ) (rs : List (List ℕ)) → AllByRecursion (λ r. combination F n r [] ≡ replicate n 0) rs
-  combinations_of_nothing n [] = tt
-  combinations_of_nothing n ([] ∷ rs) = (refl, combinations_of_nothing n rs)
-  combinations_of_nothing n ((c ∷ cs) ∷ rs) = (refl, combinations_of_nothing n rs)
-
   nil_rows : (n : ℕ) → IsMatrix F 0 (replicate n [])
   nil_rows zero = tt
   nil_rows (suc n) = (record { long = refl; elements = tt }, nil_rows n)
-
-  empty_split : IsSplit F 0 0 [] [] []
-  empty_split = record {
-    matrix = tt;
-    long = refl;
-    below = refl;
-    above = refl;
-    settles = λ t v. ([], record { long = refl; elements = tt }, refl, tt);
-    carries = λ t v. ([], record { long = refl; elements = tt }, refl, tt);
-  }
-
-  first_split : (us : List Kind) → HasNoUpper us → IsSplit F 0 (length us) [] [] us
-  first_split us h = record {
-    matrix = tt;
-    long = refl;
-    below = refl;
-    above = refl;
-    settles = λ t v. ([], record { long = refl; elements = tt }, refl, agree_without us (replicate (length us) 0) t h (length-replicate (length us) 0) v.long);
-    carries = λ t v. (replicate (length us) 0, record { long = length-replicate (length us) 0; elements = zeros-elements F L (length us) }, zero_off us, tt);
-  }
 
   -- reduced rows without columns, and no reduced rows
   last_reduced : (n m : ℕ) (rows : List (List ℕ)) (ts us : List Kind) → us ≡ [] → IsReducedBy F n m rows ts us (replicate (criticals ts) [])
@@ -110,8 +66,8 @@ module _ (F : Ops) (L : IsField F) where
       subst (λ (vs : List Kind). IsReducedBy F n m rows vs us []) (sym e)
       (record { matrix = tt; long = refl; each = λ i x l h. absurd (omega (arith, l)) })
 
-module _ (F : Ops) (L : IsField F) (space : Layers) {pairs : List Pair} {stages : List Stage} (h : IsReductionOf F (complex_of space) (negative_in space) pairs stages) where
-  cells_are : (degree : ℕ) → degree ≤ 4 → cells_at stages degree ≡ length (chains_of space degree)
+module _ (F : Ops) (L : IsField F) (space : Layers) {pairs : List Pair} {levels : List Level} (h : IsReductionOf F (complex_of space) (negative_in space) pairs levels) where
+  cells_are : (degree : ℕ) → degree ≤ 4 → cells_at levels degree ≡ length (chains_of space degree)
   cells_are zero l = (h.each 0 (omega arith)).kinds.long ∙ count-chains space 0 (omega arith)
   cells_are (suc zero) l = (h.each 1 (omega arith)).kinds.long ∙ count-chains space 1 (omega arith)
   cells_are (suc (suc zero)) l = (h.each 2 (omega arith)).kinds.long ∙ count-chains space 2 (omega arith)
@@ -120,104 +76,51 @@ module _ (F : Ops) (L : IsField F) (space : Layers) {pairs : List Pair} {stages 
   cells_are (suc (suc (suc (suc (suc degree))))) l = absurd (omega (arith, l))
 
   -- the reduced coboundaries have at most the entries of the coboundaries of all chains
-  pub steps-within : (old now : ℕ) → now ≤ old + critical_entries stages → now ≤ old + coboundary_entries space
+  pub steps-within : (old now : ℕ) → now ≤ old + critical_entries levels → now ≤ old + coboundary_entries space
   steps-within old now l =
-      let w = few_entries (kinds_at stages 0) (kinds_at stages 1) (kinds_at stages 2) (kinds_at stages 3) in
-      let e : cells_at stages 0 * cells_at stages 1 + cells_at stages 1 * cells_at stages 2 + cells_at stages 2 * cells_at stages 3 ≡ coboundary_entries space =
-      ap (λ n. n * cells_at stages 1 + cells_at stages 1 * cells_at stages 2 + cells_at stages 2 * cells_at stages 3) (cells_are 0 (omega arith))
-      ∙ ap (λ n. length (chains_of space 0) * n + n * cells_at stages 2 + cells_at stages 2 * cells_at stages 3) (cells_are 1 (omega arith))
-      ∙ ap (λ n. length (chains_of space 0) * length (chains_of space 1) + length (chains_of space 1) * n + n * cells_at stages 3) (cells_are 2 (omega arith))
+      let w = few_entries (kinds_at levels 0) (kinds_at levels 1) (kinds_at levels 2) (kinds_at levels 3) in
+      let e : cells_at levels 0 * cells_at levels 1 + cells_at levels 1 * cells_at levels 2 + cells_at levels 2 * cells_at levels 3 ≡ coboundary_entries space =
+      ap (λ n. n * cells_at levels 1 + cells_at levels 1 * cells_at levels 2 + cells_at levels 2 * cells_at levels 3) (cells_are 0 (omega arith))
+      ∙ ap (λ n. length (chains_of space 0) * n + n * cells_at levels 2 + cells_at levels 2 * cells_at levels 3) (cells_are 1 (omega arith))
+      ∙ ap (λ n. length (chains_of space 0) * length (chains_of space 1) + length (chains_of space 1) * n + n * cells_at levels 3) (cells_are 2 (omega arith))
       ∙ ap (λ n. length (chains_of space 0) * length (chains_of space 1) + length (chains_of space 1) * length (chains_of space 2) + length (chains_of space 2) * n) (cells_are 3 (omega arith)) in
-      within old now (critical_entries stages) (cells_at stages 0 * cells_at stages 1 + cells_at stages 1 * cells_at stages 2 + cells_at stages 2 * cells_at stages 3) (coboundary_entries space) l w e
+      within old now (critical_entries levels) (cells_at levels 0 * cells_at levels 1 + cells_at levels 1 * cells_at levels 2 + cells_at levels 2 * cells_at levels 3) (coboundary_entries space) l w e
 
-  rows_are : (degree : ℕ) → degree ≤ 3 → rows_at stages degree ≡ rows_of F space degree
+  rows_are : (degree : ℕ) → degree ≤ 3 → rows_at levels degree ≡ rows_of F space degree
   rows_are degree l = (h.each degree (omega arith)).rows ∙ signed-rows_of F L space degree l
-
-  -- no cells from degree 4 on
-  no_kinds : (degree : ℕ) → 4 ≤ degree → kinds_at stages degree ≡ []
-  no_kinds degree l = by degree l
-    where
-      by : (k : ℕ) → 4 ≤ k → kinds_at stages k ≡ []
-      by (suc (suc (suc (suc zero)))) l = nil_from_length (kinds_at stages 4) (h.each 4 (omega arith)).kinds.long
-      by (suc (suc (suc (suc (suc k))))) l = ap (λ (s : Stage). s.kinds) (get_or_past stages (suc (suc (suc (suc (suc k))))) empty_stage (omega (arith, h.long)))
-      by _ l = absurd (omega (arith, l))
-
-  no_rows : (degree : ℕ) → 4 ≤ degree → rows_at stages degree ≡ []
-  no_rows degree l = by degree l
-    where
-      by : (k : ℕ) → 4 ≤ k → rows_at stages k ≡ []
-      by (suc (suc (suc (suc zero)))) l = (h.each 4 (omega arith)).rows
-      by (suc (suc (suc (suc (suc k))))) l = ap (λ (s : Stage). s.rows) (get_or_past stages (suc (suc (suc (suc (suc k))))) empty_stage (omega (arith, h.long)))
-      by _ l = absurd (omega (arith, l))
 
   -- ---- the complex, with a degree without cells before it
 
   abbrev cells : ℕ → ℕ
-  cells = before 0 (cells_at stages)
+  cells = before 0 (cells_at levels)
 
   abbrev rows : ℕ → List (List ℕ)
-  rows = before [] (rows_at stages)
+  rows = before [] (rows_at levels)
 
   abbrev kinds : ℕ → List Kind
-  kinds = before [] (kinds_at stages)
+  kinds = before [] (kinds_at levels)
 
-  module _ (s : IsSplitting F stages) (split : FieldsSplit F) where
-    split_at : (k : ℕ) → IsSplit F (cells_at stages k) (cells_at stages (suc k)) (rows_at stages k) (kinds_at stages k) (kinds_at stages (suc k))
-    split_at zero = split (cells_at stages 0) (cells_at stages 1) (rows_at stages 0) (kinds_at stages 0) (kinds_at stages 1) (stage_at stages 0).pairs (s.paired 0 (omega arith)).matching
-    split_at (suc zero) = split (cells_at stages 1) (cells_at stages 2) (rows_at stages 1) (kinds_at stages 1) (kinds_at stages 2) (stage_at stages 1).pairs (s.paired 1 (omega arith)).matching
-    split_at (suc (suc zero)) = split (cells_at stages 2) (cells_at stages 3) (rows_at stages 2) (kinds_at stages 2) (kinds_at stages 3) (stage_at stages 2).pairs (s.paired 2 (omega arith)).matching
-    split_at (suc (suc (suc zero))) = split (cells_at stages 3) (cells_at stages 4) (rows_at stages 3) (kinds_at stages 3) (kinds_at stages 4) (stage_at stages 3).pairs (s.paired 3 (omega arith)).matching
-    split_at (suc (suc (suc (suc k)))) =
-        let d : ℕ = suc (suc (suc (suc k))) in
-        subst (λ (ts : List Kind). IsSplit F (length ts) (cells_at stages (suc d)) (rows_at stages d) ts (kinds_at stages (suc d))) (sym (no_kinds d (omega arith)))
-        (subst (λ (us : List Kind). IsSplit F 0 (length us) (rows_at stages d) [] us) (sym (no_kinds (suc d) (omega arith)))
-        (subst (λ (rs : List (List ℕ)). IsSplit F 0 0 rs [] []) (sym (no_rows d (omega arith))) (empty_split F L)))
-
-    splits : (k : ℕ) → IsSplit F (cells k) (cells (suc k)) (rows k) (kinds k) (kinds (suc k))
-    splits zero = first_split F L (kinds_at stages 0) s.bottom
-    splits (suc k) = split_at k
-
-    closed_low : (k : ℕ) → k ≤ 2 → AllByRecursion (λ r. combination F (cells_at stages (suc (suc k))) r (rows_at stages (suc k)) ≡ replicate (cells_at stages (suc (suc k))) 0) (rows_at stages k)
-    closed_low k l =
-        subst (λ (rs : List (List ℕ)). AllByRecursion (λ r. combination F (cells_at stages (suc (suc k))) r (rows_at stages (suc k)) ≡ replicate (cells_at stages (suc (suc k))) 0) rs) (sym (rows_are k (omega arith)))
-        (subst (λ (ns : List (List ℕ)). AllByRecursion (λ r. combination F (cells_at stages (suc (suc k))) r ns ≡ replicate (cells_at stages (suc (suc k))) 0) (rows_of F space k)) (sym (rows_are (suc k) (omega arith)))
-        (subst (λ (n : ℕ). AllByRecursion (λ r. combination F n r (rows_of F space (suc k)) ≡ replicate n 0) (rows_of F space k)) (sym (cells_are (suc (suc k)) (omega arith))) (composition_is_zero F L space (suc k))))
-
-    closed_high : (k : ℕ) → 3 ≤ k → AllByRecursion (λ r. combination F (cells_at stages (suc (suc k))) r (rows_at stages (suc k)) ≡ replicate (cells_at stages (suc (suc k))) 0) (rows_at stages k)
-    closed_high k l =
-        subst (λ (ns : List (List ℕ)). AllByRecursion (λ r. combination F (cells_at stages (suc (suc k))) r ns ≡ replicate (cells_at stages (suc (suc k))) 0) (rows_at stages k)) (sym (no_rows (suc k) (omega arith)))
-        (combinations_of_nothing F L (cells_at stages (suc (suc k))) (rows_at stages k))
-
-    closed : (k : ℕ) → AllByRecursion (λ r. combination F (cells (suc (suc k))) r (rows (suc k)) ≡ replicate (cells (suc (suc k))) 0) (rows k)
-    closed zero = tt
-    closed (suc zero) = closed_low 0 (omega arith)
-    closed (suc (suc zero)) = closed_low 1 (omega arith)
-    closed (suc (suc (suc zero))) = closed_low 2 (omega arith)
-    closed (suc (suc (suc (suc k)))) = closed_high (suc (suc (suc k))) (omega arith)
-
-    complex : IsSplitComplex F cells rows kinds
-    complex = record { closed = closed; splits = splits; bottom = tt }
-
+  module _ (R : IsReducedComplex F levels) where
     -- ---- its reduced rows
 
-    module _ {ranks : Ranks} (r : AreRanks F stages ranks) where
+    module _ {ranks : Ranks} (r : AreRanks F levels ranks) where
       abbrev reduced : ℕ → List (List ℕ)
       reduced zero = []
       reduced (suc zero) = r.first.rows
       reduced (suc (suc zero)) = r.second.rows
       reduced (suc (suc (suc zero))) = r.third.rows
-      reduced (suc (suc (suc (suc zero)))) = replicate (criticals (kinds_at stages 3)) []
+      reduced (suc (suc (suc (suc zero)))) = replicate (criticals (kinds_at levels 3)) []
       reduced (suc (suc (suc (suc (suc k))))) = []
 
       are_reduced : AreReduced F cells rows kinds reduced
-      are_reduced zero = none_reduced F L 0 (cells_at stages 0) [] [] (kinds_at stages 0) refl
+      are_reduced zero = none_reduced F L 0 (cells_at levels 0) [] [] (kinds_at levels 0) refl
       are_reduced (suc zero) = r.first.reduced
       are_reduced (suc (suc zero)) = r.second.reduced
       are_reduced (suc (suc (suc zero))) = r.third.reduced
-      are_reduced (suc (suc (suc (suc zero)))) = last_reduced F L (cells_at stages 3) (cells_at stages 4) (rows_at stages 3) (kinds_at stages 3) (kinds_at stages 4) (no_kinds 4 (omega arith))
+      are_reduced (suc (suc (suc (suc zero)))) = last_reduced F L (cells_at levels 3) (cells_at levels 4) (rows_at levels 3) (kinds_at levels 3) (kinds_at levels 4) (R.none 4 (omega arith))
       are_reduced (suc (suc (suc (suc (suc k))))) =
           let d : ℕ = suc (suc (suc (suc k))) in
-          none_reduced F L (cells_at stages d) (cells_at stages (suc d)) (rows_at stages d) (kinds_at stages d) (kinds_at stages (suc d)) (no_kinds d (omega arith))
+          none_reduced F L (cells_at levels d) (cells_at levels (suc d)) (rows_at levels d) (kinds_at levels d) (kinds_at levels (suc d)) (R.none d (omega arith))
 
       -- the rank into a degree
       abbrev pub rank_at : ℕ → ℕ
@@ -231,17 +134,17 @@ module _ (F : Ops) (L : IsField F) (space : Layers) {pairs : List Pair} {stages 
       IsInto degree = (echelon : List (List ℕ)) × IsReducedTo F (criticals (kinds (suc degree))) (rank_at degree) (criticals (kinds (suc degree))) (reduced degree) echelon
 
       into : (degree : ℕ) → degree ≤ 4 → IsInto degree
-      into zero l = ([], no_pivots F L (criticals (kinds_at stages 0)) [] tt (λ i j l m. absurd (omega (arith, l))))
+      into zero l = ([], no_pivots F L (criticals (kinds_at levels 0)) [] tt (λ i j l m. absurd (omega (arith, l))))
       into (suc zero) l = (r.first.echelon, r.first.is)
       into (suc (suc zero)) l = (r.second.echelon, r.second.is)
       into (suc (suc (suc zero))) l = (r.third.echelon, r.third.is)
       into (suc (suc (suc (suc zero)))) l =
-          let nils : List (List ℕ) = replicate (criticals (kinds_at stages 3)) [] in
-          (nils, subst (λ (us : List Kind). IsReducedTo F (criticals us) 0 (criticals us) nils nils) (sym (no_kinds 4 (omega arith))) (no_pivots F L 0 nils (nil_rows F L (criticals (kinds_at stages 3))) (λ i j l m. absurd (omega (arith, m)))))
+          let nils : List (List ℕ) = replicate (criticals (kinds_at levels 3)) [] in
+          (nils, subst (λ (us : List Kind). IsReducedTo F (criticals us) 0 (criticals us) nils nils) (sym (R.none 4 (omega arith))) (no_pivots F L 0 nils (nil_rows F L (criticals (kinds_at levels 3))) (λ i j l m. absurd (omega (arith, m)))))
       into (suc (suc (suc (suc (suc degree))))) l = absurd (omega (arith, l))
 
       -- the ranks into and out of a degree are together at most the number of critical cells
-      pub ranks-fit : BasisByRanks F → ReducedIsClosed F → (degree count : ℕ) → degree ≤ 3 → count ≡ criticals (kinds_at stages degree) → rank_at degree + rank_at (suc degree) ≤ count
+      pub ranks-fit : BasisByRanks F → ReducedIsClosed F → (degree count : ℕ) → degree ≤ 3 → count ≡ criticals (kinds_at levels degree) → rank_at degree + rank_at (suc degree) ≤ count
       ranks-fit law still degree count small e =
           let n : ℕ = criticals (kinds (suc degree)) in
           let m : ℕ = criticals (kinds (suc (suc degree))) in
@@ -249,7 +152,7 @@ module _ (F : Ops) (L : IsField F) (space : Layers) {pairs : List Pair} {stages 
           let two = are_reduced (suc degree) in
           let p = into degree (omega (arith, small)) in
           let q = into (suc degree) (omega (arith, small)) in
-          let basis = law n m (rank_at degree) (rank_at (suc degree)) (reduced degree) (reduced (suc degree)) p.0 q.0 one.matrix two.matrix two.long (still cells rows kinds reduced complex are_reduced degree) p.1 q.1 in
+          let basis = law n m (rank_at degree) (rank_at (suc degree)) (reduced degree) (reduced (suc degree)) p.0 q.0 one.matrix two.matrix two.long (still cells rows kinds reduced R.complex are_reduced degree) p.1 q.1 in
           omega (arith, basis.count, two.long, e)
 
       into_rows : (degree : ℕ) → degree ≤ 3 → rows degree ≡ rows_into F space degree
@@ -257,22 +160,22 @@ module _ (F : Ops) (L : IsField F) (space : Layers) {pairs : List Pair} {stages 
       into_rows (suc degree) l = rows_are degree (omega arith)
 
       -- the Betti numbers are what they leave
-      betti-left : BettiByReducedRanks F → (degree betti : ℕ) → degree ≤ 3 → betti + rank_at degree + rank_at (suc degree) ≡ criticals (kinds_at stages degree) → IsBetti F space degree betti
+      betti-left : BettiByReducedRanks F → (degree betti : ℕ) → degree ≤ 3 → betti + rank_at degree + rank_at (suc degree) ≡ criticals (kinds_at levels degree) → IsBetti F space degree betti
       betti-left law degree betti small left =
           let p = into degree (omega (arith, small)) in
           let q = into (suc degree) (omega (arith, small)) in
-          let found = law cells rows kinds reduced complex are_reduced degree betti (rank_at degree) (rank_at (suc degree)) p.0 q.0 p.1 q.1 left in
-          let is : IsCohomologyBasis F (cells_at stages (suc degree)) (rows degree) (rows_at stages degree) found.0 = found.1 in (
+          let found = law cells rows kinds reduced R.complex are_reduced degree betti (rank_at degree) (rank_at (suc degree)) p.0 q.0 p.1 q.1 left in
+          let is : IsCohomologyBasis F (cells_at levels (suc degree)) (rows degree) (rows_at levels degree) found.0 = found.1 in (
             found.0,
             basis_of F L space degree found.0
                 (subst (λ (n : ℕ). IsCohomologyBasis F n (rows_into F space degree) (rows_of F space degree) found.0) (cells_are (suc degree) (omega arith))
-                (subst (λ (ns : List (List ℕ)). IsCohomologyBasis F (cells_at stages (suc degree)) (rows_into F space degree) ns found.0) (rows_are degree small)
-                (subst (λ (ls : List (List ℕ)). IsCohomologyBasis F (cells_at stages (suc degree)) ls (rows_at stages degree) found.0) (into_rows degree small) is))),
+                (subst (λ (ns : List (List ℕ)). IsCohomologyBasis F (cells_at levels (suc degree)) (rows_into F space degree) ns found.0) (rows_are degree small)
+                (subst (λ (ls : List (List ℕ)). IsCohomologyBasis F (cells_at levels (suc degree)) ls (rows_at levels degree) found.0) (into_rows degree small) is))),
             found.2,
           )
 
-      pub are_betti : BettiByReducedRanks F → (numbers : Betti) → numbers.zero + rank_at 0 + rank_at 1 ≡ criticals (kinds_at stages 0) → numbers.one + rank_at 1 + rank_at 2 ≡ criticals (kinds_at stages 1)
-          → numbers.two + rank_at 2 + rank_at 3 ≡ criticals (kinds_at stages 2) → numbers.three + rank_at 3 + rank_at 4 ≡ criticals (kinds_at stages 3) → AreBetti F space numbers
+      pub are_betti : BettiByReducedRanks F → (numbers : Betti) → numbers.zero + rank_at 0 + rank_at 1 ≡ criticals (kinds_at levels 0) → numbers.one + rank_at 1 + rank_at 2 ≡ criticals (kinds_at levels 1)
+          → numbers.two + rank_at 2 + rank_at 3 ≡ criticals (kinds_at levels 2) → numbers.three + rank_at 3 + rank_at 4 ≡ criticals (kinds_at levels 3) → AreBetti F space numbers
       are_betti law numbers a b c d = record {
         zero = betti-left law 0 numbers.zero (omega arith) a;
         one = betti-left law 1 numbers.one (omega arith) b;

@@ -12,7 +12,7 @@ use face_poset::Space;
 use linear_laws::basis_by_ranks;
 use order_complex::{Betti, ChainFault, Chains};
 use small_field::{Field, OverField, over_field};
-use split_laws::{betti_by_reduced_ranks, fields_split, reduced_is_closed};
+use split_laws::{betti_by_reduced_ranks, reduced_is_closed};
 use std::alloc::{AllocError, Global};
 use std::sync::ledger::Ledger;
 use step_count::Steps;
@@ -94,7 +94,6 @@ pub fn betti_numbers<F: Field, L: Ledger>(
 {
     betti_by_reduced_ranks::<F>();
     reduced_is_closed::<F>();
-    fields_split::<F>();
     basis_by_ranks::<F>();
     let field = free_field(alloc, chains)?;
     let reduced = Reduced::<F>::new(alloc, chains, &field)?;

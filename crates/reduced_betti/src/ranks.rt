@@ -1,7 +1,7 @@
 // The ranks of the reduced coboundaries.
 ghost use Rattle.std.specs.Prelude.{◌≡◌, ◌≤◌, ◌+◌, ◌*◌, IfOk};
 ghost use Rattle.split_laws.specs.Kinds.{criticals};
-ghost use Rattle.critical_complex.specs.Splits.{kinds_at};
+ghost use Rattle.critical_complex.specs.Levels.{kinds_at};
 ghost use Rattle.reduced_betti.specs.Ranks.{HasRank, AreRanks, critical_entries};
 
 use critical_complex::Reduced;

@@ -1,4 +1,4 @@
-use Rattle.critical_complex.specs.Splits.{AreFilled}
+use Rattle.critical_complex.specs.Stages.{AreFilled}
 use Rattle.critical_complex.proofs.reduced.list_filled.Given as goal
 
 abbrev pub invariant-loop-dim : goal.invariant-loop-dim

@@ -2,7 +2,7 @@ use Rattle.std.proofs.Common.{◌≤◌, length, ap, sym, subst, ◌∙◌, ◌+
 use Rattle.linear_laws.specs.Echelon.{rank_of}
 use Rattle.field_matrix.specs.Rows.{Rows}
 use Rattle.split_laws.specs.Kinds.{criticals}
-use Rattle.critical_complex.specs.Splits.{kinds_at}
+use Rattle.critical_complex.specs.Levels.{kinds_at}
 use Rattle.reduced_betti.proofs.Bounds.{is_reduced, few_additions, few_filled, has_rank}
 use Rattle.reduced_betti.proofs.ranks.reduced_rank.Goals as goal
 

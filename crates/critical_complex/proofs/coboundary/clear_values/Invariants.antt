@@ -1,7 +1,0 @@
-use Rattle.std.proofs.Common.{replicate, take}
-use Rattle.split_laws.specs.Kinds.{criticals}
-use Rattle.critical_complex.proofs.Rows.{IsMixed}
-use Rattle.critical_complex.proofs.coboundary.clear_values.Given as goal
-
-abbrev pub invariant-loop-index : goal.invariant-loop-index
-invariant-loop-index g l = IsMixed l.next.kinds l.fn.values (replicate (criticals l.next.kinds) 0) l.values (take l.index l.reach.found.found)

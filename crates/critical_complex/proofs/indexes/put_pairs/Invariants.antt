@@ -1,7 +1,0 @@
-use Rattle.std.proofs.Common.{ℕ, ◌<◌}
-use Rattle.critical_complex.specs.Reaches.{HasPair}
-use Rattle.critical_complex.specs.Units.{pair_at}
-use Rattle.critical_complex.proofs.indexes.put_pairs.Given as goal
-
-abbrev pub invariant-loop-index : goal.invariant-loop-index
-invariant-loop-index g l = (k : ℕ) → k < l.index → HasPair l.stage.pairs l.indexes ((pair_at l.stage.pairs k).upper)

@@ -1,6 +1,0 @@
-use Rattle.std.proofs.Common.{◌≡◌, take}
-use Rattle.critical_complex.specs.Stages.{critical_from}
-use Rattle.critical_complex.proofs.listing.list_critical.Given as goal
-
-abbrev pub invariant-loop-index : goal.invariant-loop-index
-invariant-loop-index l = l.critical.items ≡ critical_from 1 (take l.index l.kinds)

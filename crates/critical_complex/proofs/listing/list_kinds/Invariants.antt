@@ -1,5 +1,0 @@
-use Rattle.critical_complex.specs.Signed.{AreKinds}
-use Rattle.critical_complex.proofs.listing.list_kinds.Given as goal
-
-abbrev pub invariant-loop-index : goal.invariant-loop-index
-invariant-loop-index l = AreKinds l.field.pairs l.dim l.index l.kinds.items

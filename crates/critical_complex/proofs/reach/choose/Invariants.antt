@@ -1,6 +1,0 @@
-use Rattle.std.proofs.Common.{◌≡◌, map, take}
-use Rattle.critical_complex.specs.Units.{pair_at}
-use Rattle.critical_complex.proofs.reach.choose.Given as goal
-
-abbrev pub invariant-loop-index : goal.invariant-loop-index
-invariant-loop-index g l = l.chosen.items ≡ map (pair_at l.stage.pairs) (take l.index-index l.order)

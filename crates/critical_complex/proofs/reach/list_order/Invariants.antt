@@ -1,6 +1,0 @@
-use Rattle.std.proofs.Common.{take}
-use Rattle.critical_complex.proofs.Searched.{IsListed}
-use Rattle.critical_complex.proofs.reach.list_order.Given as goal
-
-abbrev pub invariant-loop-index : goal.invariant-loop-index
-invariant-loop-index g l = IsListed l.next.kinds l.indexes (take l.index l.found.found) l.order.items

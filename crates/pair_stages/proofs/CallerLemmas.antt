@@ -1,0 +1,12 @@
+-- What other crates may cite of the proofs here.
+
+-- there are at most as many critical cells as cells
+pub use Rattle.pair_stages.proofs.Placed.{criticals_few}
+-- two degrees, one after the other
+pub use Rattle.pair_stages.proofs.UnitLemmas.{paired_at}
+-- the reduced rows of a degree are one
+pub use Rattle.pair_stages.proofs.Rows.{reduced_is_one}
+-- the entry of each pair is not zero
+pub use Rattle.pair_stages.proofs.Pairwise.{triangular_at}
+-- of units: a side as a mark, the value of one on another, and that each upper has exactly one
+pub use Rattle.pair_stages.proofs.UnitLemmas.{filled_mark, value_is, match_uppers}
