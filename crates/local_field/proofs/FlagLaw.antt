@@ -13,32 +13,40 @@ use Rattle.local_field.specs.Buildings.{dim_at, number_at, is_below, flag_of, Fl
 
 -- ---- ids
 
-abbrev levels : (a b c d : Bool) → ℕ
+abbrev pub levels : (a b c d : Bool) → ℕ
 levels a b c d = cond a 0 (cond b 1 (cond c 2 (cond d 3 0)))
 
-level-0 : (a b c d : Bool) → a ≡ true → levels a b c d ≡ 0
+pub level-0 : (a b c d : Bool) → a ≡ true → levels a b c d ≡ 0
 level-0 true b c d e = refl
 level-0 false b c d e = absurd (false≢true e)
 
-level-1 : (a b c d : Bool) → a ≡ false → b ≡ true → levels a b c d ≡ 1
+pub level-1 : (a b c d : Bool) → a ≡ false → b ≡ true → levels a b c d ≡ 1
 level-1 true b c d e f = absurd (false≢true (sym e))
 level-1 false true c d e f = refl
 level-1 false false c d e f = absurd (false≢true f)
 
-level-2 : (a b c d : Bool) → a ≡ false → b ≡ false → c ≡ true → levels a b c d ≡ 2
+pub level-2 : (a b c d : Bool) → a ≡ false → b ≡ false → c ≡ true → levels a b c d ≡ 2
 level-2 true b c d e f g = absurd (false≢true (sym e))
 level-2 false true c d e f g = absurd (false≢true (sym f))
 level-2 false false true d e f g = refl
 level-2 false false false d e f g = absurd (false≢true g)
 
-level-3 : (a b c d : Bool) → a ≡ false → b ≡ false → c ≡ false → d ≡ true → levels a b c d ≡ 3
+pub level-3 : (a b c d : Bool) → a ≡ false → b ≡ false → c ≡ false → d ≡ true → levels a b c d ≡ 3
 level-3 true b c d e f g h = absurd (false≢true (sym e))
 level-3 false true c d e f g h = absurd (false≢true (sym f))
 level-3 false false true d e f g h = absurd (false≢true (sym g))
 level-3 false false false true e f g h = refl
 level-3 false false false false e f g h = absurd (false≢true h)
 
-not-le : (a b : ℕ) → b < a → leb a b ≡ false
+-- above the last id
+pub level-4 : (a b c d : Bool) → a ≡ false → b ≡ false → c ≡ false → d ≡ false → levels a b c d ≡ 0
+level-4 true b c d e f g h = absurd (false≢true (sym e))
+level-4 false true c d e f g h = absurd (false≢true (sym f))
+level-4 false false true d e f g h = absurd (false≢true (sym g))
+level-4 false false false true e f g h = absurd (false≢true (sym h))
+level-4 false false false false e f g h = refl
+
+pub not-le : (a b : ℕ) → b < a → leb a b ≡ false
 not-le a b l = false_from_ne_true (leb a b) (λ e. omega (arith, l, leb-true a b e))
 
 module _ (space : List (List (List ℕ))) where
@@ -79,12 +87,12 @@ module _ (space : List (List (List ℕ))) where
   closure-In (suc d) f cells i = In-right (closure space d (facets_of_all space d cells)) (In-map (cell_at (suc d)) i)
 
   module _ (valid : IsSpace space) where
-    facets-cell : (d n : ℕ) → 1 ≤ n → n ≤ count space (suc d) → IsCell (count space d) (facets_of space (suc d) n)
+    pub facets-cell : (d n : ℕ) → 1 ≤ n → n ≤ count space (suc d) → IsCell (count space d) (facets_of space (suc d) n)
     facets-cell d n low high =
         let e : suc d - 1 ≡ d = omega arith in
         subst (λ (k : ℕ). IsCell (count space k) (facets_of space (suc d) n)) e (valid.cells (suc d) (omega arith) (n - 1) [] (omega (arith, low, high)))
 
-    facet-range : (d n f : ℕ) → 1 ≤ n → n ≤ count space (suc d) → In f (facets_of space (suc d) n) → (1 ≤ f) × (f ≤ count space d)
+    pub facet-range : (d n f : ℕ) → 1 ≤ n → n ≤ count space (suc d) → In f (facets_of space (suc d) n) → (1 ≤ f) × (f ≤ count space d)
     facet-range d n f low high i =
         let k = In-at i in
         let w = (facets-cell d n low high).within k.0 0 k.1 in
@@ -114,7 +122,7 @@ module _ (space : List (List (List ℕ))) where
         let w = facet-range d n (get_or (facets_of space (suc d) n) 0 0) low high (first-In d n low high) in
         dim-id (suc d) n small low high ∙ sym (ap suc (dim-id d (get_or (facets_of space (suc d) n) 0 0) (omega (arith, small)) w.0 w.1))
 
-    full : (d n : ℕ) → d ≤ 3 → 1 ≤ n → n ≤ count space d → IsFull (is_below space) (dim_at space) (flag_of space d n)
+    pub full : (d n : ℕ) → d ≤ 3 → 1 ≤ n → n ≤ count space d → IsFull (is_below space) (dim_at space) (flag_of space d n)
     full zero n small low high = dim-id zero n small low high
     full (suc zero) n small low high =
         let i = first-In zero n low high in

@@ -8,23 +8,23 @@ use Rattle.local_field.specs.Inside as words
 
 -- ---- lists
 
-all_append : {A : Type 0} (P : A → Type 0) (xs ys : List A) → AllByRecursion P xs → AllByRecursion P ys → AllByRecursion P (xs ++ ys)
+pub all_append : {A : Type 0} (P : A → Type 0) (xs ys : List A) → AllByRecursion P xs → AllByRecursion P ys → AllByRecursion P (xs ++ ys)
 all_append P [] ys h i = i
 all_append P (x ∷ xs) ys h i = (h.0, all_append P xs ys h.1 i)
 
-all_to : {A : Type 0} (P Q : A → Type 0) → ((x : A) → P x → Q x) → (xs : List A) → AllByRecursion P xs → AllByRecursion Q xs
+pub all_to : {A : Type 0} (P Q : A → Type 0) → ((x : A) → P x → Q x) → (xs : List A) → AllByRecursion P xs → AllByRecursion Q xs
 all_to P Q w [] h = tt
 all_to P Q w (x ∷ xs) h = (w x h.0, all_to P Q w xs h.1)
 
-all_of : {A : Type 0} (P : A → Type 0) → ((x : A) → P x) → (xs : List A) → AllByRecursion P xs
+pub all_of : {A : Type 0} (P : A → Type 0) → ((x : A) → P x) → (xs : List A) → AllByRecursion P xs
 all_of P w [] = tt
 all_of P w (x ∷ xs) = (w x, all_of P w xs)
 
-all_map : {A B : Type 0} (f : A → B) (P : A → Type 0) (Q : B → Type 0) → ((x : A) → P x → Q (f x)) → (xs : List A) → AllByRecursion P xs → AllByRecursion Q (map f xs)
+pub all_map : {A B : Type 0} (f : A → B) (P : A → Type 0) (Q : B → Type 0) → ((x : A) → P x → Q (f x)) → (xs : List A) → AllByRecursion P xs → AllByRecursion Q (map f xs)
 all_map f P Q w [] h = tt
 all_map f P Q w (x ∷ xs) h = (w x h.0, all_map f P Q w xs h.1)
 
-pairwise_append : {A : Type 0} (R : A → A → Type 0) (xs ys : List A) → Pairwise R xs → Pairwise R ys → AllByRecursion (λ x. AllByRecursion (R x) ys) xs → Pairwise R (xs ++ ys)
+pub pairwise_append : {A : Type 0} (R : A → A → Type 0) (xs ys : List A) → Pairwise R xs → Pairwise R ys → AllByRecursion (λ x. AllByRecursion (R x) ys) xs → Pairwise R (xs ++ ys)
 pairwise_append R [] ys h i c = i
 pairwise_append R (x ∷ xs) ys h i c = (all_append (R x) xs ys h.0 c.0, pairwise_append R xs ys h.1 i c.1)
 
@@ -33,7 +33,7 @@ pairwise_map f R S w [] h = tt
 pairwise_map f R S w (x ∷ xs) h = (all_map f (R x) (S (f x)) (λ y r. w x y r) xs h.0, pairwise_map f R S w xs h.1)
 
 -- P at each, and R at each two, give S at each two
-all_both_to : {A : Type 0} (P Q S : A → Type 0) → ((x : A) → P x → Q x → S x) → (xs : List A) → AllByRecursion P xs → AllByRecursion Q xs → AllByRecursion S xs
+pub all_both_to : {A : Type 0} (P Q S : A → Type 0) → ((x : A) → P x → Q x → S x) → (xs : List A) → AllByRecursion P xs → AllByRecursion Q xs → AllByRecursion S xs
 all_both_to P Q S w [] h r = tt
 all_both_to P Q S w (x ∷ xs) h r = (w x h.0 r.0, all_both_to P Q S w xs h.1 r.1)
 
@@ -45,7 +45,7 @@ no_cons : (x : ℕ) (xs : List ℕ) → x ∷ xs ≢ []
 no_cons x xs e = let l : suc (length xs) ≡ 0 = ap length e in omega (arith, l)
 
 -- all facets are shorter by one
-facet_length : (t : List ℕ) → AllByRecursion (λ e. suc (length e) ≡ length t) (facets t)
+pub facet_length : (t : List ℕ) → AllByRecursion (λ e. suc (length e) ≡ length t) (facets t)
 facet_length [] = tt
 facet_length (g ∷ t) = (refl, all_map (λ s. g ∷ s) (λ e. suc (length e) ≡ length t) (λ e. suc (length e) ≡ suc (length t)) (λ e h. ap suc h) (facets t) (facet_length t))
 
@@ -73,7 +73,7 @@ module _ (below : ℕ → ℕ → Bool) (dim : ℕ → ℕ) (data_of : ℕ → �
   Full = words.IsFull below dim
 
   module _ (works : (g f : ℕ) → face f g → dim g ≡ suc (dim f) → IsBuilding g f (data_of g f)) (flag_head : (c : ℕ) → flag c ≡ c ∷ rest_of (flag c)) (flag_full : (c : ℕ) → Full (flag c)) where
-    full_length : (c : ℕ) (t : List ℕ) → Full (c ∷ t) → length (c ∷ t) ≡ suc (dim c)
+    pub full_length : (c : ℕ) (t : List ℕ) → Full (c ∷ t) → length (c ∷ t) ≡ suc (dim c)
     full_length c [] h = ap suc (sym h)
     full_length c (f ∷ rest) h = ap suc (full_length f rest h.2 ∙ sym h.1)
 

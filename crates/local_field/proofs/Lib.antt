@@ -1,3 +1,13 @@
 mod InsideCells
 mod Examples
 mod FlagLaw
+mod Cells
+mod EdgeBuildings
+mod Paths
+mod BuildingLemmas
+mod DiskBuildings
+mod SolidBuildings
+mod Flagged
+mod Inner
+mod ChainTowers
+mod AllCells

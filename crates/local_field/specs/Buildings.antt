@@ -18,19 +18,25 @@
 --   solid_building space solid face pairs      of a 3-cell: the vertex that a collapse leaves, and its pairs in reverse
 --   building_at space collapse g f     the building of the boundary of a cell without one facet
 --   pairs_inside space collapse dim number     the pairs of towers inside a cell, which leave over its flag
-use Rattle.std.specs.Prelude.{ℕ, zero, suc, ◌-◌, ◌≤◌, ◌==◌, nat_le, if◌then◌else◌, List, [], ◌∷◌, ◌++◌, map, reverse, slice_index, Bool}
+--   IsCollapsing space collapse        each collapse is one of the boundary of its 3-cell less its 2-cell
+--   SpacesAreFlagged                   in a regular space faces have smaller dimensions, flags are full, and along
+--                                      collapses of the 3-cells the buildings build up the boundaries
+--   CellsLeaveOver                     so the pairs inside each cell leave over its flag alone
+use Rattle.std.specs.Prelude.{◌≡◌, ℕ, zero, suc, ◌-◌, ◌≤◌, ◌==◌, nat_le, if◌then◌else◌, List, [], ◌∷◌, ◌++◌, map, reverse, slice_index, Bool, true}
 use Rattle.number_lists.specs.Words.{holds}
 use Rattle.face_poset.specs.declared.cells.Cell.{Cell}
 use Rattle.face_poset.specs.declared.cells.Pair.{Pair}
 use Rattle.face_poset.specs.Poset.{Layers, IsSpace, count, facets_of}
 use Rattle.face_poset.specs.Below.{cell_at}
 use Rattle.regular_check.specs.declared.cycles.Step.{Step}
+use Rattle.regular_check.specs.Rules.{IsRegular}
 use Rattle.regular_check.specs.Cycle.{cycle, start_of, end_of}
-use Rattle.sphere_collapses.specs.Collapses.{lower_of, upper_of, without, boundary_less}
+use Rattle.sphere_collapses.specs.Collapses.{lower_of, upper_of, without, boundary_less, collapses}
+use Rattle.sphere_collapses.specs.Laws.{IsFaceOf}
 use Rattle.sphere_collapses.specs.Spheres.{first_end, last_end}
 use Rattle.order_complex.specs.Chains.{cells_before, id_of, faces_of}
 use Rattle.local_field.specs.Towers.{Building, TowerPair, local}
-use Rattle.local_field.specs.Inside.{IsFull}
+use Rattle.local_field.specs.Inside.{IsFull, IsFlagged, LeavesOver}
 
 abbrev pub dim_at : Layers → (id : ℕ) → ℕ
 dim_at space id =
@@ -110,3 +116,28 @@ building_at space collapse g f =
 abbrev pub pairs_inside : Layers → (collapse : (solid face : ℕ) → List Pair) → (dim number : ℕ) → List TowerPair
 pairs_inside space collapse dim number =
     local (building_at space collapse) (flag_at space) 3 (flag_of space dim number)
+
+abbrev pub IsCollapsing : Layers → (collapse : (solid face : ℕ) → List Pair) → Type 0
+IsCollapsing space collapse =
+    (solid face : ℕ)
+    → IsFaceOf space solid face
+    → collapses space (boundary_less space solid face) (collapse solid face) ≡ true
+
+abbrev pub SpacesAreFlagged : Type 0
+SpacesAreFlagged =
+    (space : Layers) (collapse : (solid face : ℕ) → List Pair)
+    → IsSpace space
+    → IsRegular space
+    → IsCollapsing space collapse
+    → IsFlagged (is_below space) (dim_at space) (building_at space collapse) (flag_at space)
+
+abbrev pub CellsLeaveOver : Type 0
+CellsLeaveOver =
+    (space : Layers) (collapse : (solid face : ℕ) → List Pair) (dim number : ℕ)
+    → IsSpace space
+    → IsRegular space
+    → IsCollapsing space collapse
+    → dim ≤ 3
+    → 1 ≤ number
+    → number ≤ count space dim
+    → LeavesOver (is_below space) (dim_at space) (flag_of space dim number) (pairs_inside space collapse dim number)

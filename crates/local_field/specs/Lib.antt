@@ -1,11 +1,15 @@
--- What the contracts mean: Towers, Inside, and Buildings. The buildings of a space are checked by the examples alone: no
--- contract cites them yet.
+-- What the contracts mean: Towers, Inside, Buildings and Numbered.
 -- Words of lower crates that these speak of stand at the end.
 pub mod Towers
 pub mod Inside
 pub mod Buildings
+pub mod Numbered
 pub use Rattle.order_complex.specs.Chains
+pub use Rattle.order_complex.specs.Complex
+pub use Rattle.vector_field.specs.Pairs
 pub use Rattle.sphere_collapses.specs.Collapses
 pub use Rattle.sphere_collapses.specs.Spheres
+pub use Rattle.sphere_collapses.specs.Laws
+pub use Rattle.regular_check.specs.Rules
 pub use Rattle.regular_check.specs.Cycle
 pub use Rattle.face_poset.specs.Poset

@@ -3,4 +3,6 @@
 
 mod laws;
 
-pub use laws::{flags_are_full, local_leaves_over};
+pub use laws::{
+    cells_leave_over, flags_are_full, local_leaves_over, local_pairs_are_fields, spaces_are_flagged,
+};

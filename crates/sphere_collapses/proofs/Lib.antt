@@ -1,3 +1,4 @@
+pub mod CallerLemmas
 mod Frees
 mod Kept
 mod FaceCounts

@@ -1,5 +1,5 @@
--- What the contracts mean: Collapses, Spheres and Laws.
--- What the code keeps for itself: Places and Trees.
+-- What the contracts mean: Collapses, Spheres and Laws; for trees and places also Places, and IsLink and IsTree of Trees.
+-- What the code keeps for itself: the rest of Trees.
 -- Words of lower crates that these speak of stand at the end.
 pub mod Collapses
 pub mod Spheres

@@ -30,7 +30,7 @@ pub(crate) fn facets_below(
 }
 
 /// For each of these cells the places of its facets in a sorted list, counted from 1.
-pub(crate) fn facet_places(
+pub fn facet_places(
     alloc: Global,
     space: &Space,
     dim: u8,
@@ -67,7 +67,7 @@ fn list_places(numbers: &[u32], sorted: &[u32], places: &mut Vec<u32>) -> Result
 }
 
 /// The place of a number in a sorted list, counted from 1.
-pub(crate) fn place_of(number: u32, sorted: &[u32]) -> u32
+pub fn place_of(number: u32, sorted: &[u32]) -> u32
     requires rises { IsStrictlyIncreasing sorted.now }
     requires few { length sorted.now ≤ 4294967295 }
     requires there { Contains sorted.now number }

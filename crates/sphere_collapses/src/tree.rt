@@ -9,19 +9,14 @@ use std::alloc::{AllocError, Global};
 
 /// A node with the link along which it was taken into a tree; both are numbered from 1.
 #[derive(Clone, Copy)]
-pub(crate) struct Taken {
-    pub(crate) node: u32,
-    pub(crate) link: u32,
+pub struct Taken {
+    pub node: u32,
+    pub link: u32,
 }
 
 /// A tree from a root on, as far as links lead, the nodes in the order in which they are taken. Nodes and
 /// links are numbered from 1; each link is the list of its two nodes.
-pub(crate) fn grow(
-    alloc: Global,
-    nodes: usize,
-    links: &Lists,
-    root: u32,
-) -> Result<Vec<Taken>, AllocError>
+pub fn grow(alloc: Global, nodes: usize, links: &Lists, root: u32) -> Result<Vec<Taken>, AllocError>
     requires links { All (IsLink nodes) links.now }
     requires few { length links.now ≤ 4294967295 }
     requires first { 1 ≤ root }
