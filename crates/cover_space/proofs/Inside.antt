@@ -1,5 +1,5 @@
 -- The cells of a closed cell: their ranges, those of their own closed cells, and the least vertex.
-use Rattle.std.proofs.Common.{◌≡◌, inl, inr, ℕ, zero, suc, ◌+◌, ◌-◌, ◌<◌, ◌≤◌, List, [], ◌∷◌, ◌++◌, map, filter, Bool, ◌⊎◌, eqb, length, get_or, refl, ap, sym, subst, arith, Contains}
+use Rattle.std.proofs.Common.{◌≡◌, inl, inr, ℕ, zero, suc, ◌+◌, ◌-◌, ◌<◌, ◌≤◌, List, [], ◌∷◌, ◌++◌, map, filter, Bool, ◌⊎◌, eqb, length, get_or, refl, ap, sym, ◌∙◌, subst, arith, Contains}
 use Rattle.std.specs.List.{list_any}
 use Rattle.std.proofs.lemmas.Bool.{eqb-true, eq-eqb}
 use Rattle.std.proofs.lemmas.List.{get_or_past}
@@ -123,3 +123,9 @@ module _ (X : List (List (List ℕ))) (hs : IsSpace X) where
       let v : least_vertex X d c ≡ b.vertex = ap (λ (cs : List Cell). (get_or cs 0 (cell_at 0 0)).number) b.is in
       let i : In (cell_at 0 b.vertex) (closed_cell X d c) = subst (In (cell_at 0 b.vertex)) (sym b.is) here in
       subst (λ (z : ℕ). IsBelow X d c 0 z) (sym v) (closed-In d c r (In-Contains i))
+
+  -- it is the first of the vertices
+  pub first-below : (d c : ℕ) → InRange (count X d) c → get_or (below X d c 0) 0 0 ≡ least_vertex X d c
+  first-below d c r =
+      let b = begins d (c ∷ []) (λ k i. elim (In-cases i) [ inl e ↦ subst (InRange (count X d)) (sym e) r | inr n ↦ elim n [ ] ]) (omega arith) in
+      ap (λ (cs : List Cell). get_or (map (λ (k : Cell). k.number) (filter (λ (k : Cell). eqb k.dim 0) cs)) 0 0) b.is ∙ sym (ap (λ (cs : List Cell). (get_or cs 0 (cell_at 0 0)).number) b.is)

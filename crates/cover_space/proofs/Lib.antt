@@ -9,3 +9,8 @@ mod Laid
 mod Copies
 mod Components
 mod Examples
+mod TreeOrder
+mod Rising
+mod Walked
+mod Layered
+mod Stepped

@@ -16,13 +16,14 @@
 --   cell_over space m u dim cell s           the facets of the cell over this one at the sheet s, by those of this one
 --   layer_over space m u dim                 the cells over those of a dimension, by cell, then by sheet
 --   total_of space m u                       the total space: these lists for the dimensions 0 to 3
-use Rattle.std.specs.Prelude.{ℕ, ◌+◌, ◌-◌, ◌*◌, ◌==◌, ◌&&◌, ◌||◌, List, [], ◌∷◌, filter, map, Contains, Bool}
+--   IsTooLarge space m                       it would have more than 60,000 cells
+use Rattle.std.specs.Prelude.{ℕ, ◌+◌, ◌-◌, ◌*◌, ◌<◌, ◌==◌, ◌&&◌, ◌||◌, List, [], ◌∷◌, filter, map, Contains, Bool}
 use Rattle.std.specs.Prelude.{slice_index, slice_index_or}
 use Rattle.std.specs.List.{list_any, flat_map}
 use Rattle.number_lists.specs.Words.{upto}
 use Rattle.number_lists.specs.Reach.{reaches}
 use Rattle.face_poset.specs.declared.cells.Cell.{Cell}
-use Rattle.face_poset.specs.Poset.{Layers, count, facets_of}
+use Rattle.face_poset.specs.Poset.{Layers, count, cell_count, facets_of}
 use Rattle.face_poset.specs.Below.{cell_at, closed_cell}
 use Rattle.regular_check.specs.declared.cycles.Step.{Step}
 use Rattle.regular_check.specs.Cycle.{start_of, end_of}
@@ -87,3 +88,6 @@ layer_over space m u dim = flat_map (λ c. map (cell_over space m u dim c) (upto
 abbrev pub total_of : Layers → (m : ℕ) → List (List ℕ) → Layers
 total_of space m u =
     layer_over space m u 0 ∷ layer_over space m u 1 ∷ layer_over space m u 2 ∷ layer_over space m u 3 ∷ []
+
+abbrev pub IsTooLarge : Layers → (m : ℕ) → Type 0
+IsTooLarge space m = 60000 < m * cell_count space

@@ -6,9 +6,15 @@
 //! m (c - 1) + 1 to m c, for m sheets.
 #![tactic(auto)]
 
+mod closed;
+mod fault;
 mod laws;
+mod making;
+mod over;
 
+pub use fault::TotalFault;
 pub use laws::{
     closed_cells_are_covered_by_copies, each_cell_lies_over_one, sheet_is_along,
     total_has_components, total_is_a_space, total_is_regular,
 };
+pub use making::total;
