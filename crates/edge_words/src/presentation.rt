@@ -48,6 +48,13 @@ impl Presentation {
         }
     }
 
+    /// The presentation without generators and relators, and without words of edges.
+    pub fn trivial(alloc: Global) -> Presentation
+        ensures { result ≡ record { generators = []; relators = []; words = [] } }
+    {
+        Presentation::new(Vec::new(alloc), WordList::new(alloc), WordList::new(alloc))
+    }
+
     /// The critical edges, in increasing order: generator g is the g-th of them.
     pub fn generators(&self) -> &[u32]
         ensures generators { result.now ≡ self.now.generators }

@@ -1,4 +1,5 @@
 mod LongCells
 mod Lists
 mod Made
+mod Wholes
 mod Examples

@@ -16,7 +16,12 @@
 --   long_in space number       the first cell whose word is too long in the part of a component
 --   first_of cells             the first of these that is a cell
 --   long_word space            the first such cell in the parts of all components, one part after another
-use Rattle.std.specs.Prelude.{ℕ, ℤ, List, [], ◌∷◌, map, option_map, Option, Some, None}
+--   components_from space first   the numbers of the components from the first one on
+--   presented_in space number  the presentation of the part of a component, without the words of edges
+--   presented_from space first those of the components from the first one on, in order
+--   long_from space first      the first cell whose word is too long in the parts of these
+use Rattle.std.specs.Prelude.{ℕ, ◌+◌, ◌-◌, ℤ, List, [], ◌∷◌, map, option_map, Option, Some, None}
+use Rattle.std.specs.List.{range_with_len}
 use Rattle.number_lists.specs.Words.{upto}
 use Rattle.face_poset.specs.declared.cells.Cell.{Cell}
 use Rattle.face_poset.specs.Poset.{Layers}
@@ -85,3 +90,17 @@ long_in space number = long_cell (field_in space number)
 
 abbrev pub long_word : Layers → Option Cell
 long_word space = first_of (map (long_in space) (upto (component_count space)))
+
+-- ---- the components from one on
+
+abbrev pub components_from : Layers → (first : ℕ) → List ℕ
+components_from space first = range_with_len first ((component_count space + 1) - first)
+
+abbrev pub presented_in : Layers → (number : ℕ) → Presented
+presented_in space number = alone ((group_by (field_in space number)).presentation)
+
+abbrev pub presented_from : Layers → (first : ℕ) → List Presented
+presented_from space first = map (presented_in space) (components_from space first)
+
+abbrev pub long_from : Layers → (first : ℕ) → Option Cell
+long_from space first = first_of (map (long_in space) (components_from space first))

@@ -7,7 +7,9 @@
 mod field;
 mod listing;
 mod part_group;
+mod presenting;
 
 pub use field::{PartField, field_of_part};
 pub use listing::{Group, groups_of};
 pub use part_group::PartGroup;
+pub use presenting::presentations_from;

@@ -7,9 +7,11 @@ ghost use Rattle.part_groups.specs.Groups.{group_in, told_of, groups_of, long_in
 
 use crate::field::field_of_part;
 use crate::part_group::PartGroup;
-use edge_words::{Presentation, WordFault};
+use chosen_field::{chosen_is_good, tree_field};
+use edge_words::{Presentation, WordFault, present};
+use face_poset::Graded;
 use regular_check::Regular;
-use space_parts::{Part, Parts, parts_of};
+use space_parts::{Part, Parts, one_part_is_the_space, one_part_keeps_numbers, parts_of};
 use std::alloc::{AllocError, Global};
 use std::marker::Model;
 
@@ -59,6 +61,51 @@ pub fn groups_of(alloc: Global, regular: &Regular<'_>) -> Result<Vec<Group>, Wor
     ensures groups { IfOk result (λ groups. groups.items ≡ groups_of regular.now) }
     ensures limits { MatchResult result (λ _. long_word regular.now ≡ None) (IsFault (long_word regular.now)) }
 {
+    let components = regular.components(alloc)?;
+    if components.count() == 1 {
+        only_group(alloc, regular)
+    } else {
+        all_groups(alloc, regular)
+    }
+}
+
+/// The group of a space with one component, of which no part is made.
+fn only_group(alloc: Global, regular: &Regular<'_>) -> Result<Vec<Group>, WordFault>
+    requires { component_count regular.now ≡ 1 }
+    ensures groups { IfOk result (λ groups. groups.items ≡ groups_of regular.now) }
+    ensures limits { MatchResult result (λ _. long_word regular.now ≡ None) (IsFault (long_word regular.now)) }
+{
+    let group = whole_group(alloc, regular)?;
+    let mut groups = Vec::new(alloc);
+    groups.push(group)?;
+    Ok(groups)
+}
+
+/// The group of a space with one component, or the cell of its first word that is too long.
+fn whole_group(alloc: Global, regular: &Regular<'_>) -> Result<Group, WordFault>
+    requires { component_count regular.now ≡ 1 }
+    ensures group { IfOk result (λ group. group ≡ group_in regular.now 1) }
+    ensures limits { MatchResult result
+        (λ _. long_in regular.now 1 ≡ None)
+        (IsFault (long_in regular.now 1)) }
+{
+    one_part_is_the_space();
+    one_part_keeps_numbers();
+    let _vertices = regular.space().cells(0);
+    let field = tree_field(alloc, regular)?;
+    let presentation = present(alloc, regular, &field)?;
+    let edges = Vec::from_slice(alloc, presentation.generators())?;
+    Ok(Group {
+        edges,
+        presentation: presentation.without_words(alloc),
+    })
+}
+
+/// The groups of all components, each by its part.
+fn all_groups(alloc: Global, regular: &Regular<'_>) -> Result<Vec<Group>, WordFault>
+    ensures groups { IfOk result (λ groups. groups.items ≡ groups_of regular.now) }
+    ensures limits { MatchResult result (λ _. long_word regular.now ≡ None) (IsFault (long_word regular.now)) }
+{
     let parts = parts_of(alloc, regular)?;
     let mut groups = Vec::new(alloc);
     for index in 0..parts.count() {
@@ -68,8 +115,28 @@ pub fn groups_of(alloc: Global, regular: &Regular<'_>) -> Result<Vec<Group>, Wor
     Ok(groups)
 }
 
-/// The group of the part of a component, or the cell of its first word that is too long.
+/// The group of the part of a component, or the cell of its first word that is too long. Of a part without
+/// edges it is trivial, and nothing is made.
 fn group_in(alloc: Global, parts: &Parts<'_>, component: u32) -> Result<Group, WordFault>
+    requires first { 1 ≤ component }
+    requires last { component ≤ component_count parts.now }
+    ensures group { IfOk result (λ group. group ≡ group_in parts.now component) }
+    ensures limits { MatchResult result
+        (λ _. long_in parts.now component ≡ None)
+        (IsFault (long_in parts.now component)) }
+{
+    chosen_is_good();
+    if parts.cells(1, component) == 0 {
+        return Ok(Group {
+            edges: Vec::new(alloc),
+            presentation: Presentation::trivial(alloc),
+        });
+    }
+    group_by_field(alloc, parts, component)
+}
+
+/// The group of the part of a component, by its chosen field.
+fn group_by_field(alloc: Global, parts: &Parts<'_>, component: u32) -> Result<Group, WordFault>
     requires first { 1 ≤ component }
     requires last { component ≤ component_count parts.now }
     ensures group { IfOk result (λ group. group ≡ group_in parts.now component) }

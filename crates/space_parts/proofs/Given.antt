@@ -1,14 +1,14 @@
 -- What is listed of a space, from its parts.
-use Rattle.std.proofs.Common.{◌≡◌, ℕ, ◌≤◌, List, [], ◌∷◌, ◌++◌, length, get_or, refl, ap, sym, ◌∙◌, subst, arith, All}
+use Rattle.std.proofs.Common.{◌≡◌, ℕ, ◌-◌, ◌≤◌, ◌<◌, List, [], ◌∷◌, ◌++◌, length, eqb, get_or, refl, ap, sym, ◌∙◌, subst, arith, All}
 use Rattle.face_poset.specs.Poset.{IsLimited, IsSpace, count}
 use Rattle.regular_check.specs.Components.{Numbering, ComponentsAreNumbered, components_of, component_count, is_least}
 use Rattle.number_lists.specs.Words.{upto}
 use Rattle.number_lists.proofs.CallerLemmas.{length-upto, length-filter-le}
-use Rattle.space_parts.specs.Parts.{Piece, cells_in, part_of, piece_of}
+use Rattle.space_parts.specs.Parts.{Piece, component_at, cells_in, part_of, piece_of}
 use Rattle.space_parts.specs.Laws.{IsWhole}
 use Rattle.space_parts.specs.Listings.{numbers_of, grouped, own_places, IsListing}
 use Rattle.space_parts.specs.Making.{stage, HasCells}
-use Rattle.space_parts.proofs.Listed.{length_numbers, numbers_in}
+use Rattle.space_parts.proofs.Listed.{length_numbers, numbers_in, grouped_at, length_grouped}
 use Rattle.space_parts.proofs.Places.{by_dim, part_above, part_count}
 
 pub count_few : (space : List (List (List ℕ))) → IsLimited space → (d : ℕ) → d ≤ 3 → count space d ≤ 60000
@@ -58,6 +58,24 @@ listing space number g0 g1 g2 g3 places x0 x1 x2 x3 p0 p1 p2 p3 m0 m1 m2 m3 a0 a
           ∙ by_dim (λ d. get_or (p0 ∷ p1 ∷ p2 ∷ p3 ∷ []) d [] ≡ own_places (numbers_of space d)) (given_places space 0 number x0 a0 p0 m0 q0 r0) (given_places space 1 number x1 a1 p1 m1 q1 r1)
           (given_places space 2 number x2 a2 p2 m2 q2 r2) (given_places space 3 number x3 a3 p3 m3 q3 r3) d l;
     }
+
+-- the cells of a component
+pub room : (space : List (List (List ℕ))) (cells : List (List (List ℕ))) (places : List (List ℕ)) (number dim : ℕ) → IsListing space cells places → dim < 4 → number ≤ component_count space → number ≤ length (get_or cells dim [])
+room space cells places number dim h l n = omega (arith, n, ap length (h.cells_are dim (omega (arith, l))), length_grouped space dim (component_count space))
+
+pub own_cells : (space : List (List (List ℕ))) (cells : List (List (List ℕ))) (places : List (List ℕ)) (number dim : ℕ) (own : List ℕ) → IsListing space cells places → dim < 4 → 1 ≤ number → number ≤ component_count space
+    → own ≡ get_or (get_or cells dim []) (number - 1) [] → own ≡ cells_in space number dim
+own_cells space cells places number dim own h l low n e =
+    e ∙ (ap (λ (gs : List (List ℕ)). get_or gs (number - 1) []) (h.cells_are dim (omega (arith, l))) ∙ grouped_at space dim number (component_count space) low n)
+
+-- how many they are
+pub own_many : (space : List (List (List ℕ))) (cells : List (List (List ℕ))) (places : List (List ℕ)) (number dim : ℕ) (own : List ℕ) → IsListing space cells places → dim ≤ 3 → 1 ≤ number → number ≤ component_count space
+    → own ≡ get_or (get_or cells dim []) (number - 1) [] → length own ≡ count (part_of space number) dim
+own_many space cells places number dim own h l low n e = ap length (own_cells space cells places number dim own h (omega (arith, l)) low n e) ∙ sym (part_count space number dim l)
+
+pub own_few : (space : List (List (List ℕ))) (number dim : ℕ) → IsLimited space → dim ≤ 3 → count (part_of space number) dim ≤ 60000
+own_few space number dim few l =
+    omega (arith, part_count space number dim l, length-filter-le (λ c. eqb (component_at space dim c) number) (upto (count space dim)), length-upto (count space dim), count_few space few dim l)
 
 -- ---- a part that was made
 

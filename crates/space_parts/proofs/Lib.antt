@@ -1,3 +1,4 @@
+pub mod CallerLemmas
 mod Counted
 mod Within
 mod Places

@@ -9,7 +9,7 @@ use Rattle.space_parts.proofs.PartSpaces.{cells_few}
 
 module _ (whole : ℕ → List (List ℕ)) where
   -- another part stands there
-  parts_differ : (part other : ℕ → List (List ℕ)) (dim : ℕ) → dim ≤ 3 → part dim ≡ other dim → made whole part dim ≡ made whole other dim
+  pub parts_differ : (part other : ℕ → List (List ℕ)) (dim : ℕ) → dim ≤ 3 → part dim ≡ other dim → made whole part dim ≡ made whole other dim
   parts_differ part other dim l e =
       by_dim (λ d. part d ≡ other d → made whole part d ≡ made whole other d)
       (λ q. ap (λ (cells : List (List ℕ)). cells ∷ [] ∷ [] ∷ [] ∷ []) q)
@@ -18,13 +18,13 @@ module _ (whole : ℕ → List (List ℕ)) where
       (λ q. ap (λ (cells : List (List ℕ)). whole 0 ∷ whole 1 ∷ whole 2 ∷ cells ∷ []) q) dim l e
 
   -- one cell more
-  made-more : (part more : ℕ → List (List ℕ)) (dim : ℕ) (cell : List ℕ) → dim ≤ 3 → more dim ≡ part dim ++ cell ∷ [] → set (made whole part dim) dim (layer (made whole part dim) dim ++ cell ∷ []) ≡ made whole more dim
+  pub made-more : (part more : ℕ → List (List ℕ)) (dim : ℕ) (cell : List ℕ) → dim ≤ 3 → more dim ≡ part dim ++ cell ∷ [] → set (made whole part dim) dim (layer (made whole part dim) dim ++ cell ∷ []) ≡ made whole more dim
   made-more part more dim cell l e =
       let added : ℕ → List (List ℕ) = λ d. part d ++ cell ∷ [] in
       by_dim (λ d. set (made whole part d) d (layer (made whole part d) d ++ cell ∷ []) ≡ made whole added d) refl refl refl refl dim l ∙ parts_differ added more dim l (sym e)
 
   -- the next dimension
-  made-end : (none : ℕ → List (List ℕ)) (dim : ℕ) → dim ≤ 3 → ((d : ℕ) → none d ≡ []) → made whole whole dim ≡ made whole none (dim + 1)
+  pub made-end : (none : ℕ → List (List ℕ)) (dim : ℕ) → dim ≤ 3 → ((d : ℕ) → none d ≡ []) → made whole whole dim ≡ made whole none (dim + 1)
   made-end none dim l h =
       by_dim (λ d. made whole whole d ≡ made whole none (d + 1))
       (ap (λ (cells : List (List ℕ)). whole 0 ∷ cells ∷ [] ∷ [] ∷ []) (sym (h 1)))
@@ -32,7 +32,7 @@ module _ (whole : ℕ → List (List ℕ)) where
       (ap (λ (cells : List (List ℕ)). whole 0 ∷ whole 1 ∷ whole 2 ∷ cells ∷ []) (sym (h 3))) refl dim l
 
   -- nothing stands above
-  made-above : (part : ℕ → List (List ℕ)) (dim above : ℕ) → dim ≤ 3 → dim < above → count (made whole part dim) above ≡ 0
+  pub made-above : (part : ℕ → List (List ℕ)) (dim above : ℕ) → dim ≤ 3 → dim < above → count (made whole part dim) above ≡ 0
   made-above part dim above l m = by_dim (λ d. (a : ℕ) → d < a → count (made whole part d) a ≡ 0) over0 over1 over2 over3 dim l above m
     where
       over0 : (a : ℕ) → 0 < a → count (made whole part 0) a ≡ 0
@@ -64,7 +64,7 @@ module _ (whole : ℕ → List (List ℕ)) where
       over3 (suc (suc (suc (suc a)))) h = refl
 
   -- all cells of the dimension below stand
-  made-below : (part : ℕ → List (List ℕ)) (dim : ℕ) → dim ≤ 3 → 1 ≤ dim → count (made whole part dim) (dim - 1) ≡ length (whole (dim - 1))
+  pub made-below : (part : ℕ → List (List ℕ)) (dim : ℕ) → dim ≤ 3 → 1 ≤ dim → count (made whole part dim) (dim - 1) ≡ length (whole (dim - 1))
   made-below part dim l m = by_dim (λ d. 1 ≤ d → count (made whole part d) (d - 1) ≡ length (whole (d - 1))) (λ h. absurd (omega arith)) (λ h. refl) (λ h. refl) (λ h. refl) dim l m
 
 module _ (space : List (List (List ℕ))) (number : ℕ) where

@@ -1,5 +1,5 @@
--- A space with one component is its part; the facets of a cell of a part are those of its cell in the space.
-use Rattle.std.proofs.Common.{◌≡◌, ℕ, zero, suc, ◌+◌, ◌-◌, ◌<◌, ◌≤◌, List, [], ◌∷◌, Bool, true, eqb, filter, map, length, get_or, refl, ap, sym, ◌∙◌, arith}
+-- A space with one component is its part, number by number; the facets of a cell of a part are those of its cell in the space.
+use Rattle.std.proofs.Common.{◌≡◌, ℕ, zero, suc, ◌+◌, ◌-◌, ◌<◌, ◌≤◌, List, [], ◌∷◌, Bool, true, eqb, filter, map, length, get_or, refl, ap, sym, subst, ◌∙◌, arith}
 use Rattle.std.proofs.lemmas.Bool.{eq-eqb}
 use Rattle.std.proofs.lemmas.List.{same_lists, get_or-map, length-map, get_or_default}
 use Rattle.number_lists.specs.Words.{upto}
@@ -19,9 +19,13 @@ filter_all p [] h = refl
 filter_all p (x ∷ xs) h = rw (h x here) (ap (λ (ys : List ℕ). x ∷ ys) (filter_all p xs (λ y i. h y (there i))))
 
 -- a map that changes nothing there
-map_kept : (f : ℕ → ℕ) (xs : List ℕ) → ((x : ℕ) → In x xs → f x ≡ x) → map f xs ≡ xs
+pub map_kept : (f : ℕ → ℕ) (xs : List ℕ) → ((x : ℕ) → In x xs → f x ≡ x) → map f xs ≡ xs
 map_kept f [] h = refl
 map_kept f (x ∷ xs) h = ap (λ (y : ℕ). y ∷ map f xs) (h x here) ∙ ap (λ (ys : List ℕ). x ∷ ys) (map_kept f xs (λ y i. h y (there i)))
+
+-- the cell of the space from which one of a part comes
+whole_is : (space : List (List (List ℕ))) (number d n : ℕ) → d ≤ 3 → whole_of (piece_of space number) d n ≡ get_or (cells_in space number d) (n - 1) 0
+whole_is space number d n l = by_dim (λ e. whole_of (piece_of space number) e n ≡ get_or (cells_in space number e) (n - 1) 0) refl refl refl refl d l
 
 module _ (space : List (List (List ℕ))) (hs : IsSpace space) (numbered : ComponentsAreNumbered) (one : component_count space ≡ 1) where
   all_first : (d c : ℕ) → 1 ≤ c → c ≤ count space d → component_at space d c ≡ 1
@@ -62,10 +66,15 @@ module _ (space : List (List (List ℕ))) (hs : IsSpace space) (numbered : Compo
       read : (d : ℕ) (q : List (List ℕ)) → d < 4 → layer_in space 1 d ≡ get_or space d q
       read d q l = layer_kept d ∙ get_or_default space d [] q (omega (arith, l, hs.layers))
 
-module _ (space : List (List (List ℕ))) (number : ℕ) (hs : IsSpace space) (regular : IsRegular space) (paths : SameComponentIsAPath) where
-  whole_is : (d n : ℕ) → d ≤ 3 → whole_of (piece_of space number) d n ≡ get_or (cells_in space number d) (n - 1) 0
-  whole_is d n l = by_dim (λ e. whole_of (piece_of space number) e n ≡ get_or (cells_in space number e) (n - 1) 0) refl refl refl refl d l
+  -- and has its numbers
+  pub numbers_kept : (d c : ℕ) → 1 ≤ c → c ≤ count space d → whole_of (piece_of space 1) d c ≡ c
+  numbers_kept d c low high =
+      let three : d ≤ 3 = part_low space 1 d c low (subst (λ (s : List (List (List ℕ))). c ≤ count s d) (sym part_is_space) high) in
+      let at : get_or (upto (count space d)) (c - 1) 0 ≡ (c - 1) + 1 = get_or-upto (count space d) (c - 1) (omega (arith, low, high)) in
+      whole_is space 1 d c three
+      ∙ (ap (λ (xs : List ℕ). get_or xs (c - 1) 0) (upto_all d (count space d) (omega arith)) ∙ (at ∙ omega (arith, low)))
 
+module _ (space : List (List (List ℕ))) (number : ℕ) (hs : IsSpace space) (regular : IsRegular space) (paths : SameComponentIsAPath) where
   pub facets_whole : (dim cell : ℕ) → 1 ≤ cell → cell ≤ count (part_of space number) (suc dim)
       → map (whole_of (piece_of space number) dim) (facets_of (part_of space number) (suc dim) cell) ≡ facets_of space (suc dim) (whole_of (piece_of space number) (suc dim) cell)
   facets_whole dim cell low high =
@@ -75,12 +84,12 @@ module _ (space : List (List (List ℕ))) (number : ℕ) (hs : IsSpace space) (r
       let e : suc dim - 1 ≡ dim = omega arith in
       let is : facets_of (part_of space number) (suc dim) cell ≡ map (place_in space number dim) (facets_of space (suc dim) c) = h.facets ∙ ap (λ (n : ℕ). map (place_in space number n) (facets_of space (suc dim) c)) e in
       ap (map (whole_of (piece_of space number) dim)) is
-      ∙ (back dim c (omega (arith, three)) h.member ∙ ap (facets_of space (suc dim)) (sym (whole_is (suc dim) cell three)))
+      ∙ (back dim c (omega (arith, three)) h.member ∙ ap (facets_of space (suc dim)) (sym (whole_is space number (suc dim) cell three)))
     where
       back_all : (dim : ℕ) (xs : List ℕ) → dim ≤ 3 → ((f : ℕ) → In f xs → IsMember space number dim f) → map (whole_of (piece_of space number) dim) (map (place_in space number dim) xs) ≡ xs
       back_all dim [] l m = refl
       back_all dim (x ∷ xs) l m =
-          ap (λ (y : ℕ). y ∷ map (whole_of (piece_of space number) dim) (map (place_in space number dim) xs)) (whole_is dim (place_in space number dim x) l ∙ (goes_to space number hs dim x (m x here)).back)
+          ap (λ (y : ℕ). y ∷ map (whole_of (piece_of space number) dim) (map (place_in space number dim) xs)) (whole_is space number dim (place_in space number dim x) l ∙ (goes_to space number hs dim x (m x here)).back)
           ∙ ap (λ (ys : List ℕ). x ∷ ys) (back_all dim xs l (λ f i. m f (there i)))
 
       back : (dim c : ℕ) → dim ≤ 3 → IsMember space number (suc dim) c → map (whole_of (piece_of space number) dim) (map (place_in space number dim) (facets_of space (suc dim) c)) ≡ facets_of space (suc dim) c

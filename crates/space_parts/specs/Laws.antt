@@ -7,6 +7,7 @@
 --                                   component and of no other
 --   EachCellIsInOnePart             so it is with each cell of a space
 --   OnePartIsTheSpace               a space with one component is its part
+--   OnePartKeepsNumbers             and each cell of that part has the number that it has in the space
 --   PartsHaveTheFacets              the facets of a cell of a part are those of its cell in the whole space
 use Rattle.std.specs.Prelude.{◌≡◌, ◌↔◌, ℕ, ◌+◌, ◌≤◌, Contains, map}
 use Rattle.face_poset.specs.Poset.{Layers, IsSpace, count, facets_of}
@@ -42,6 +43,15 @@ EachCellIsInOnePart = (space : Layers) (dim cell : ℕ) → IsSpace space → 1 
 
 abbrev pub OnePartIsTheSpace : Type 0
 OnePartIsTheSpace = (space : Layers) → IsSpace space → component_count space ≡ 1 → part_of space 1 ≡ space
+
+abbrev pub OnePartKeepsNumbers : Type 0
+OnePartKeepsNumbers =
+    (space : Layers) (dim cell : ℕ)
+    → IsSpace space
+    → component_count space ≡ 1
+    → 1 ≤ cell
+    → cell ≤ count space dim
+    → whole_of (piece_of space 1) dim cell ≡ cell
 
 abbrev pub PartsHaveTheFacets : Type 0
 PartsHaveTheFacets =

@@ -1,6 +1,6 @@
 // Laws on definitions: each is the contract of a function that does nothing at run time.
 ghost use Rattle.space_parts.specs.Laws.{EachCellIsInOnePart, FacetsLieWithin, OnePartIsTheSpace};
-ghost use Rattle.space_parts.specs.Laws.{PartsAreRegular, PartsHaveTheFacets};
+ghost use Rattle.space_parts.specs.Laws.{OnePartKeepsNumbers, PartsAreRegular, PartsHaveTheFacets};
 
 use regular_check::{components_are_numbered, same_component_is_a_path};
 
@@ -30,6 +30,14 @@ pub fn each_cell_is_in_one_part()
 /// A law, and nothing at run time: a space with one component is its only part.
 pub fn one_part_is_the_space()
     ensures { OnePartIsTheSpace }
+{
+    components_are_numbered();
+}
+
+/// A law, and nothing at run time: each cell of the only part of a space with one component has the number
+/// that it has in the space.
+pub fn one_part_keeps_numbers()
+    ensures { OnePartKeepsNumbers }
 {
     components_are_numbered();
 }

@@ -12,8 +12,8 @@ mod part;
 mod parts;
 
 pub use laws::{
-    each_cell_is_in_one_part, facets_lie_within, one_part_is_the_space, parts_are_regular,
-    parts_have_the_facets,
+    each_cell_is_in_one_part, facets_lie_within, one_part_is_the_space, one_part_keeps_numbers,
+    parts_are_regular, parts_have_the_facets,
 };
 pub use part::Part;
 pub use parts::{Parts, parts_of};

@@ -1,7 +1,10 @@
 ghost use Rattle.std.specs.Prelude.{◌≡◌, ◌≤◌, IfOk};
+ghost use Rattle.face_poset.specs.Poset.{count};
 ghost use Rattle.regular_check.specs.Components.{component_count};
-ghost use Rattle.space_parts.specs.Parts.{piece_of};
+ghost use Rattle.space_parts.specs.Parts.{part_of, piece_of};
+ghost use Rattle.space_parts.specs.Laws.{IsWhole};
 
+use crate::laws::parts_are_regular;
 use crate::listing::Listing;
 use crate::making::make_part;
 use crate::part::Part;
@@ -51,6 +54,19 @@ impl<'a> Parts<'a> {
         ensures { result ≡ component_count self.now }
     {
         self.count
+    }
+
+    /// How many cells of a dimension the part of a component has, without making the part; components are
+    /// numbered from 1.
+    pub fn cells(&self, dim: u8, component: u32) -> u32
+        requires dim { dim ≤ 3 }
+        requires first { 1 ≤ component }
+        requires last { component ≤ component_count self.now }
+        ensures cells { result ≡ count (part_of self.now component) dim }
+        ensures whole { IsWhole (part_of self.now component) }
+    {
+        parts_are_regular();
+        self.listing.cells(dim, component).len() as u32
     }
 
     /// The part of a component, which is numbered from 1, in as many steps as it has cells and facets.

@@ -1,22 +1,11 @@
-use Rattle.std.proofs.Common.{◌≡◌, ℕ, ◌+◌, ◌-◌, ◌≤◌, ◌<◌, List, [], ◌∷◌, ◌++◌, map, length, get_or, ap, sym, ◌∙◌, subst, arith}
+use Rattle.std.proofs.Common.{◌≡◌, ℕ, ◌+◌, ◌≤◌, List, [], ◌∷◌, ◌++◌, map, ap, sym, ◌∙◌, subst, arith}
 use Rattle.std.specs.List.{range_with_len}
 use Rattle.std.proofs.lemmas.List.FromFn.{map-range_with_len_more}
 use Rattle.face_poset.specs.Poset.{count}
-use Rattle.regular_check.specs.Components.{component_count}
 use Rattle.space_parts.specs.Parts.{cells_in, part_of}
-use Rattle.space_parts.specs.Listings.{IsListing}
 use Rattle.space_parts.specs.Making.{HasCells}
-use Rattle.space_parts.proofs.Listed.{grouped_at, length_grouped}
-use Rattle.space_parts.proofs.Given.{some_vertex, stage_whole, has_cells, piece_is}
+use Rattle.space_parts.proofs.Given.{room, own_cells, some_vertex, stage_whole, has_cells, piece_is}
 use Rattle.space_parts.proofs.making.make_part.Goals as goal
-
-room : (space : List (List (List ℕ))) (cells : List (List (List ℕ))) (places : List (List ℕ)) (number dim : ℕ) → IsListing space cells places → dim < 4 → number ≤ component_count space → number ≤ length (get_or cells dim [])
-room space cells places number dim h l n = omega (arith, n, ap length (h.cells_are dim (omega (arith, l))), length_grouped space dim (component_count space))
-
-own_cells : (space : List (List (List ℕ))) (cells : List (List (List ℕ))) (places : List (List ℕ)) (number dim : ℕ) (own : List ℕ) → IsListing space cells places → dim < 4 → 1 ≤ number → number ≤ component_count space
-    → own ≡ get_or (get_or cells dim []) (number - 1) [] → own ≡ cells_in space number dim
-own_cells space cells places number dim own h l low n e =
-    e ∙ (ap (λ (gs : List (List ℕ)). get_or gs (number - 1) []) (h.cells_are dim (omega (arith, l))) ∙ grouped_at space dim number (component_count space) low n)
 
 pub cells-own-requires-clause-last : goal.cells-own-requires-clause-last
 cells-own-requires-clause-last c = room c.args.space.now c.args.listing.now.cells c.args.listing.now.places c.args.component c.loop-dim.dim c.requires.listing c.loop-dim-test.true c.requires.last

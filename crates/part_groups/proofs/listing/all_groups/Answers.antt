@@ -7,7 +7,7 @@ use Rattle.regular_check.specs.Components.{component_count}
 use Rattle.edge_words.specs.Limits.{IsFault}
 use Rattle.part_groups.specs.Groups.{Generated, group_in, long_in}
 use Rattle.part_groups.proofs.Lists.{first-more, fault-found}
-use Rattle.part_groups.proofs.listing.groups_of.Goals as goal
+use Rattle.part_groups.proofs.listing.all_groups.Goals as goal
 
 pub returns-in_err-group-clause-limits : goal.returns-in_err-group-clause-limits
 returns-in_err-group-clause-limits c =
