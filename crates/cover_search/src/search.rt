@@ -143,6 +143,13 @@ impl<'a> Search<'a> {
     {
         &self.position
     }
+
+    /// That position, where the search is not wanted any more.
+    pub fn into_position(self) -> Position
+        ensures { at result ≡ self.entry.position }
+    {
+        self.position
+    }
 }
 
 /// Brings the course to a position, and writes it down; and whether a search may begin there.

@@ -6,7 +6,7 @@ use Rattle.std.specs.Io.KnownBytes.{Keeps}
 use Rattle.hap_outside.specs.Causes.{Rose, HasCause}
 use Rattle.hap_outside.specs.Stores.{Store, bytes_under}
 use Rattle.hap_outside.specs.Writes.{Writes}
-use Rattle.hap_words.specs.Asked.{Asked, spot_of}
+use Rattle.hap_words.specs.Asked.{Asked, cells, check, betti, cup, verify, migrate, group, covers, cover, report, make, spot_of}
 use Rattle.hap_ends.specs.declared.outcome.Outcome.{Outcome}
 use Rattle.hap_ends.specs.declared.outcome.Outcome.TheVariants.{Done, Spent, Usage, Refused, ReadFault, WriteFault, Memory}
 use Rattle.hap_ends.specs.declared.refusal.Refusal.TheVariants.{TooLong}
@@ -19,22 +19,50 @@ use Rattle.hap_cli.specs.declared.answer.Answer.{Answer}
 use Rattle.hap_cli.specs.Refusals.{refusal, cause}
 use Rattle.hap_cli.specs.Answers.{text_of, Gives}
 use Rattle.hap_cli.specs.Counting.{Counts, CountsBy}
-use Rattle.hap_cli.specs.Ends.{ending, status_for, asks_cover, may_write, EndsOn, IsEnd, EndsBy}
+use Rattle.hap_cli.specs.Ends.{ending, status_for, asks_cover, writes_while, may_write, EndsOn, IsEnd, EndsBy}
 
 -- ---- on the bytes of the input
 
-within : (asked : Asked) (bytes : List ℕ) → length bytes ≤ limit_of asked → refusal asked bytes ≡ cause asked bytes
+pub within : (asked : Asked) (bytes : List ℕ) → length bytes ≤ limit_of asked → refusal asked bytes ≡ cause asked bytes
 within asked bytes short = ap (λ b. if b then Some (TooLong (limit_of asked)) else cause asked bytes) (not_less (limit_of asked) (length bytes) short)
 
 too_long : (asked : Asked) (bytes : List ℕ) → limit_of asked < length bytes → refusal asked bytes ≡ Some (TooLong (limit_of asked))
 too_long asked bytes long = ap (λ b. if b then Some (TooLong (limit_of asked)) else cause asked bytes) (less (limit_of asked) (length bytes) long)
 
+-- only a command that writes while it searches has an ending
+ending_none : (asked : Asked) (bytes : List ℕ) → writes_while asked ≡ false → ending asked bytes ≡ None
+ending_none (cells o) bytes e = refl
+ending_none (check o) bytes e = refl
+ending_none (betti o) bytes e = refl
+ending_none (cup o) bytes e = refl
+ending_none (verify o) bytes e = refl
+ending_none (migrate o) bytes e = refl
+ending_none (group o) bytes e = refl
+ending_none (covers o) bytes e = absurd (let bad : true ≡ false = e in cc)
+ending_none (cover o) bytes e = refl
+ending_none (report o) bytes e = refl
+ending_none (make o) bytes e = refl
+
+-- and `cover` has none
+cover_none : (asked : Asked) (bytes : List ℕ) → asks_cover (Some asked) ≡ true → ending asked bytes ≡ None
+cover_none (cells o) bytes e = refl
+cover_none (check o) bytes e = refl
+cover_none (betti o) bytes e = refl
+cover_none (cup o) bytes e = refl
+cover_none (verify o) bytes e = refl
+cover_none (migrate o) bytes e = refl
+cover_none (group o) bytes e = refl
+cover_none (covers o) bytes e = absurd (let bad : false ≡ true = e in cc)
+cover_none (cover o) bytes e = refl
+cover_none (report o) bytes e = refl
+cover_none (make o) bytes e = refl
+
 -- an answer is written
 pub answered_end : {T E : Type 0} (asked : Asked) (bytes : List ℕ) (old new : Option (List ℕ)) (before now : ℕ) (answer : Answer) (r : Result T E)
-    → length bytes ≤ limit_of asked → Gives asked bytes (Ok answer) → Writes old new (text_of answer) r → HasCause before now r
+    → length bytes ≤ limit_of asked → writes_while asked ≡ false → Gives asked bytes (Ok answer) → Writes old new (text_of answer) r → HasCause before now r
     → EndsOn asked bytes (Rose before now) old new (written_outcome r)
-answered_end asked bytes old new before now answer (Ok x) short g w h = (refl, record { text = text_of answer; answers = (within asked bytes short ∙ g.0, g.1); appended = w.whole })
-answered_end asked bytes old new before now answer (Err e) short g w h = (h.failed, record { text = text_of answer; answers = (within asked bytes short ∙ g.0, g.1); count = w.part.0; less = w.part.1; appended = w.part.2 })
+answered_end asked bytes old new before now answer (Ok x) short before_it g w h = (ending_none asked bytes before_it, record { text = text_of answer; answers = (within asked bytes short ∙ g.0, g.1); appended = w.whole })
+answered_end asked bytes old new before now answer (Err e) short before_it g w h = (h.failed, record { text = text_of answer; answers = (within asked bytes short ∙ g.0, g.1); count = w.part.0; less = w.part.1; appended = w.part.2 })
 
 -- no answer is given
 pub refused_end : (asked : Asked) (bytes : List ℕ) (write : Type 0) (old : Option (List ℕ)) (outcome : Outcome)
@@ -207,7 +235,7 @@ cover_quiet (Some asked) store read write old new outcome status e h a s = at ou
   where
     at : (outcome : Outcome) → 6 ≡ status_of outcome → IsEnd asked store read write old new outcome → may_write outcome ≡ false
     at Done e h = absurd (omega (arith, e))
-    at (Spent spot) e h = let bad : None ≡ Some (spot_of spot) = h.holds.0 in absurd cc
+    at (Spent spot) e h = let bad : None ≡ Some (spot_of spot) = sym (cover_none asked h.bytes a) ∙ h.holds.0 in absurd cc
     at Usage e h = refl
     at (Refused cause) e h = refl
     at ReadFault e h = refl

@@ -1,3 +1,4 @@
+mod CoverEnds
 mod Ends
 mod Examples
 mod Stages

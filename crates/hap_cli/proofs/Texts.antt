@@ -1,5 +1,5 @@
 -- The texts of lists, element by element, and the parts of the lines of groups.
-use Rattle.std.proofs.Common.{◌≡◌, ◌≤◌, ◌<◌, ◌+◌, ◌-◌, ◌++◌, ◌∷◌, [], ℕ, zero, suc, Option, Result, List, codes, length, take, drop, get_or, refl, sym, ◌∙◌, ap, subst, arith, append_assoc}
+use Rattle.std.proofs.Common.{◌≡◌, ◌≤◌, ◌<◌, ◌+◌, ◌-◌, ◌++◌, ◌∷◌, [], ℕ, zero, suc, Option, Result, Ok, List, codes, length, take, drop, get_or, refl, sym, ◌∙◌, ap, subst, arith, append_assoc}
 use Rattle.std.specs.Prelude.{ℤ}
 use Rattle.std.specs.Fmt.{signed_decimal}
 use Rattle.std.specs.List.{flat_map}
@@ -12,6 +12,11 @@ use Rattle.hap_cli.specs.GroupTexts.{word_text, later_letters, numbered_text, gr
 -- a text by another name
 pub gathers_as : {T E : Type 0} (a b : Option (List ℕ)) (before after text whole : List ℕ) (r : Result T E) → text ≡ whole → Gathers a b before after text r → Gathers a b before after whole r
 gathers_as a b before after text whole r e g = subst (λ (t : List ℕ). Gathers a b before after t r) e g
+
+-- a text that was gathered by a call which answers something else
+pub gathers_done : {T E : Type 0} (a b : Option (List ℕ)) (before after text : List ℕ) (u : Unit {0}) (x : T)
+    → Gathers {T = Unit {0}} {E = E} a b before after text (Ok u) → Gathers {T = T} {E = E} a b before after text (Ok x)
+gathers_done a b before after text u x g = record { handed = g.handed; rest = g.rest; all = g.all; bytes = g.bytes; kept = g.kept; lost = g.lost }
 
 -- ---- each element has a text
 

@@ -29,7 +29,7 @@ use Rattle.regular_check.specs.Components.{component_count}
 use Rattle.small_field.specs.Modulus.{field_of}
 use Rattle.order_complex.specs.declared.betti.Betti.{Betti}
 use Rattle.order_complex.specs.Numbers.{AreBetti}
-use Rattle.hap_words.specs.Asked.{Asked, cells, check, betti, group, make}
+use Rattle.hap_words.specs.Asked.{Asked, cells, check, betti, group, covers, make}
 use Rattle.hap_ends.specs.declared.outcome.Outcome.{Outcome}
 use Rattle.hap_ends.specs.declared.outcome.Outcome.TheVariants.{Refused, Memory}
 use Rattle.hap_ends.specs.Refusals.{bare}
@@ -42,6 +42,7 @@ use Rattle.hap_cli.specs.declared.make.Summary.{Summary}
 use Rattle.hap_cli.specs.declared.make.ChainNumbers.{ChainNumbers}
 use Rattle.hap_cli.specs.Refusals.{cause}
 use Rattle.hap_cli.specs.GroupTexts.{groups_text, group_text}
+use Rattle.hap_cli.specs.CoverTexts.{covers_text}
 
 abbrev pub cells_text : Layers → List ℕ
 cells_text space =
@@ -91,6 +92,8 @@ IsAnswer (betti o) bytes text =
     × (numbers : Betti) × AreBetti (field_of o.modulus) space numbers × (text ≡ betti_text numbers)
 IsAnswer (group o) bytes text =
     (space : Layers) × (regular_in o.source.kind bytes ≡ Ok space) × (text ≡ group_text space)
+IsAnswer (covers o) bytes text =
+    (space : Layers) × (regular_in o.source.kind bytes ≡ Ok space) × (text ≡ covers_text space o)
 IsAnswer (make o) bytes text = IsMade o.size o.modulus text
 IsAnswer other bytes text = ⊥
 

@@ -2,6 +2,7 @@
 -- count of faults of the source, and that of the output, rose; old and new are what the output holds before and after.
 --   Answers asked bytes text     the text is an answer on an input that is not refused
 --   ending asked bytes           the spot at which the search of a command is spent that writes while it searches; or None
+--   writes_while asked           the command writes while it searches
 --   status_for refusal ending    the status where nothing fails outside: that of the refusal, else 6 at a spot, else 0
 --   may_write outcome            a run that ends so may have written
 --   asks_cover words             the words ask for `cover`, which writes nothing where its budget is spent
@@ -11,24 +12,38 @@
 --   EndsBy words store read write old new outcome   the same of what the words ask for: where they are refused, that is the
 --                                                   cause, or memory was wanting to read them. Nothing in it speaks of err
 use Rattle.std.specs.Prelude.{◌≡◌, ◌⊎◌, ◌<◌, ℕ, List, Bool, true, false, length, take, MatchOption}
+use Rattle.std.specs.declared.result.Result.{Result}
+use Rattle.std.specs.declared.result.Result.TheVariants.{Ok, Err}
 use Rattle.std.specs.declared.option.Option.{Option}
 use Rattle.std.specs.declared.option.Option.TheVariants.{Some, None}
 use Rattle.std.specs.Io.KnownBytes.{Appends, Keeps}
 use Rattle.hap_outside.specs.Stores.{Store}
-use Rattle.hap_words.specs.Asked.{Asked, SearchSpot, cover, spot_of}
+use Rattle.face_poset.specs.Poset.{Layers}
+use Rattle.hap_words.specs.Asked.{Asked, CoversAsked, SearchSpot, covers, cover, spot_of}
 use Rattle.hap_ends.specs.declared.outcome.Outcome.{Outcome}
 use Rattle.hap_ends.specs.declared.outcome.Outcome.TheVariants.{Done, Spent, Usage, Refused, ReadFault, WriteFault, Memory}
 use Rattle.hap_ends.specs.declared.refusal.Refusal.{Refusal}
 use Rattle.hap_ends.specs.Refusals.{refusal_status, bare}
 use Rattle.hap_inputs.specs.Input.{OnInput}
+use Rattle.hap_inputs.specs.Spaces.{regular_in}
 use Rattle.hap_cli.specs.Refusals.{refusal}
+use Rattle.hap_cli.specs.CoverTexts.{spent_on}
 use Rattle.hap_cli.specs.Answers.{IsAnswer}
 
 abbrev pub Answers : Asked → List ℕ → List ℕ → Type 0
 Answers asked bytes text = (refusal asked bytes ≡ None) × IsAnswer asked bytes text
 
+abbrev pub ending_in : CoversAsked → Result Layers Refusal → Option SearchSpot
+ending_in o (Ok space) = spent_on space o
+ending_in o (Err refusal) = None
+
 abbrev pub ending : Asked → List ℕ → Option SearchSpot
-ending asked bytes = None
+ending (covers o) bytes = ending_in o (regular_in o.source.kind bytes)
+ending other bytes = None
+
+abbrev pub writes_while : Asked → Bool
+writes_while (covers o) = true
+writes_while other = false
 
 abbrev pub status_for : Option Refusal → Option SearchSpot → ℕ
 status_for (Some cause) ending = refusal_status cause

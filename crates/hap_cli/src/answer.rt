@@ -1,5 +1,5 @@
 // What a command answers, as a value.
-ghost use Rattle.std.specs.Prelude.{◌≡◌, ◌≤◌, true, length};
+ghost use Rattle.std.specs.Prelude.{◌≡◌, ◌≤◌, true, false, length};
 ghost use Rattle.hap_outside.specs.Causes.{HasCause};
 ghost use Rattle.hap_outside.specs.Writes.{Writes};
 ghost use Rattle.hap_words.specs.Asked.{asked_of};
@@ -7,6 +7,7 @@ ghost use Rattle.hap_words.specs.Ranges.{is_in_range};
 ghost use Rattle.hap_words.specs.Table.{is_built};
 ghost use Rattle.hap_cli.specs.Answers.{text_of, Gives};
 ghost use Rattle.hap_cli.specs.Counting.{Counts};
+ghost use Rattle.hap_cli.specs.Ends.{writes_while};
 
 use crate::betti::{answer_betti, write_betti};
 use crate::cells::{answer_cells, write_cells};
@@ -50,6 +51,7 @@ pub fn answer_to<L: Ledger>(
     requires few { length bytes.now ≤ 67108864 }
     requires built { is_built (asked_of command.now) ≡ true }
     requires ranges { is_in_range (asked_of command.now) ≡ true }
+    requires before { writes_while (asked_of command.now) ≡ false }
     ensures answer { Gives (asked_of command.now) bytes.now result }
     ensures steps { Counts (asked_of command.now) bytes.now steps.old steps.new }
 {

@@ -245,8 +245,8 @@ fn put_later_letter<K: Sink>(
     put_letter(out, held, letters, index)
 }
 
-// Puts words and a number.
-fn put_count<K: Sink>(
+/// Puts words and a number.
+pub(crate) fn put_count<K: Sink>(
     out: &mut K,
     held: &mut Held,
     words: &[u8],

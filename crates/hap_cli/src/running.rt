@@ -3,6 +3,8 @@ ghost use Rattle.std.specs.Prelude.{◌≡◌, ◌≢◌, ◌⊎◌, ◌≤◌, 
 ghost use Rattle.std.specs.Io.KnownBytes.{IsAtEnd};
 ghost use Rattle.hap_outside.specs.Causes.{Rose};
 ghost use Rattle.hap_outside.specs.Stores.{bytes_under};
+ghost use Rattle.cover_laws.specs.Laws.{EachClassOnce};
+ghost use Rattle.cover_listing.specs.PartCovers.{ListingsAreOfCovers};
 ghost use Rattle.hap_words.specs.Asked.{asked_of};
 ghost use Rattle.hap_words.specs.Ranges.{is_in_range};
 ghost use Rattle.hap_words.specs.Table.{is_built, read as asked_by};
@@ -11,9 +13,12 @@ ghost use Rattle.hap_ends.specs.Outcomes.{status_of, line_of, Tells};
 ghost use Rattle.hap_inputs.specs.Input.{input_name, limit_of, told_store, has_input, reads_input};
 ghost use Rattle.hap_cli.specs.Refusals.{refusal};
 ghost use Rattle.hap_cli.specs.Counting.{Counts, CountsBy, CountsIf};
-ghost use Rattle.hap_cli.specs.Ends.{ending, status_for, asks_cover, may_write, EndsOn, IsEnd, EndsBy};
+ghost use Rattle.hap_cli.specs.Ends.{ending, status_for, asks_cover, writes_while, may_write, EndsOn, IsEnd, EndsBy};
 
 use crate::answer::{answer_to, write_answer};
+use crate::covers::perform_covers;
+use cover_laws::each_class_once;
+use cover_listing::listings_are_of_covers;
 use hap_ends::{Outcome, end_with, written};
 use hap_inputs::read_input;
 use hap_outside::{Sink, Source};
@@ -77,9 +82,15 @@ pub fn run<S: Source, K: Sink, E: Sink, L: Ledger>(
     ensures unspent { asks_cover (asked_by (map string_bytes words.now)) ≡ true → result ≡ 6 → out.new ≡ out.old }
     ensures silent { result ≡ 0 → err.new ≡ err.old }
 
+    // What is listed of the parts of a space are the covers of each part, and of these each class of connected
+    // labellings has exactly one.
+    ensures classes { EachClassOnce × ListingsAreOfCovers }
+
     // The row additions of reducing coboundaries are counted, and nothing else.
     ensures steps { CountsIf (asked_by (map string_bytes words.now)) (S.store source.old) steps.old steps.new }
 {
+    each_class_once();
+    listings_are_of_covers();
     let outcome = perform_words(alloc, words, source, out, steps);
     let status = end_with(err, &outcome);
     drop(outcome);
@@ -160,6 +171,31 @@ fn perform_on<K: Sink, L: Ledger>(
     requires few { length bytes.now ≤ limit_of (asked_of command.now) }
     requires built { is_built (asked_of command.now) ≡ true }
     requires ranges { is_in_range (asked_of command.now) ≡ true }
+    ensures cause { EndsOn (asked_of command.now) bytes.now (Rose (K.faults out.old) (K.faults out.new))
+        (K.written out.old) (K.written out.new) result }
+    ensures read { result ≢ Outcome.ReadFault }
+    ensures write_told { K.faults out.old < K.faults out.new → result ≡ Outcome.WriteFault }
+    ensures nothing { may_write result ≡ false → out.new ≡ out.old }
+    ensures steps { Counts (asked_of command.now) bytes.now steps.old steps.new }
+{
+    match command {
+        Command::Covers(options) => perform_covers(alloc, options, bytes, out),
+        _ => perform_answer(alloc, command, bytes, out, steps),
+    }
+}
+
+// Writes the answer of a command that is done before it writes.
+fn perform_answer<K: Sink, L: Ledger>(
+    alloc: Global,
+    command: &Command,
+    bytes: &[u8],
+    out: &mut K,
+    steps: &mut Steps<L>,
+) -> Outcome
+    requires few { length bytes.now ≤ limit_of (asked_of command.now) }
+    requires built { is_built (asked_of command.now) ≡ true }
+    requires ranges { is_in_range (asked_of command.now) ≡ true }
+    requires before { writes_while (asked_of command.now) ≡ false }
     ensures cause { EndsOn (asked_of command.now) bytes.now (Rose (K.faults out.old) (K.faults out.new))
         (K.written out.old) (K.written out.new) result }
     ensures read { result ≢ Outcome.ReadFault }

@@ -2,6 +2,7 @@
 use crate::outcome::Outcome;
 use crate::refusal::Refusal;
 use array_values::ArrayFault;
+use cover_search::SearchFault;
 use edge_words::WordFault;
 use face_poset::SpaceFault;
 use gap_text::TextFault;
@@ -89,6 +90,20 @@ impl From<WordFault> for Outcome {
         match fault {
             WordFault::TooLong(cell) => Outcome::Refused(Refusal::Word(cell)),
             WordFault::Memory => Outcome::Memory,
+        }
+    }
+}
+
+impl From<SearchFault> for Outcome {
+    ghost use Rattle.std.specs.Prelude.{◌≡◌};
+    ghost use Rattle.hap_ends.specs.Outcomes.{search_outcome};
+
+    ghost from_gives = { λ fault outcome. outcome ≡ search_outcome fault };
+
+    fn from(fault: SearchFault) -> Outcome {
+        match fault {
+            SearchFault::BadPosition => Outcome::Refused(Refusal::Position),
+            SearchFault::Memory => Outcome::Memory,
         }
     }
 }

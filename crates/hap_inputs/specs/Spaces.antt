@@ -6,10 +6,16 @@
 --   only_regular stage            after a stage: refused where the space breaks a rule of regularity
 --   only_few stage                after a stage: refused where the order complex has more chains than are taken
 --   only_worded stage             after a stage: refused where the word of a cell is too long in the part of a component
+--   only_worded_from first stage  the same of the components from the first one on
+--   is_begin Ps n t               a listing of the components with these relations, of at most n sheets, may begin at the position t
+--                                 of the first: it is the start, or live there
+--   position_in spot              the position of a spot in its component
+--   only_begun n spot stage       after a stage: refused where the listing may not begin at the spot
 --   regular_in, few_in, worded_in kind bytes   the space of the bytes after these stages
+--   begun_in kind bytes n spot    the same after the stages of a listing
 --   fault_in stage                the refusal of a stage, if there is one
---   of_value, of_array, of_text, unless_broken, unless_long: steps
-use Rattle.std.specs.Prelude.{ℕ, List, nat_lt, if◌then◌else◌}
+--   of_value, of_array, of_text, unless_broken, unless_long, is_live_first: steps
+use Rattle.std.specs.Prelude.{ℕ, List, [], ◌∷◌, length, Bool, false, ◌==◌, ◌&&◌, ◌||◌, nat_lt, nat_le, if◌then◌else◌}
 use Rattle.std.specs.declared.result.Result.{Result}
 use Rattle.std.specs.declared.result.Result.TheVariants.{Ok, Err}
 use Rattle.std.specs.declared.option.Option.{Option}
@@ -30,8 +36,12 @@ use Rattle.regular_check.specs.declared.fault.RegularFault.{RegularFault}
 use Rattle.regular_check.specs.Rules.{first_fault}
 use Rattle.order_complex.specs.Chains.{chain_count}
 use Rattle.face_poset.specs.declared.cells.Cell.{Cell}
-use Rattle.part_groups.specs.Groups.{long_word}
+use Rattle.live_laws.specs.Live.{Relations, Position, is_live}
+use Rattle.part_groups.specs.Groups.{long_word, long_from}
+use Rattle.cover_listing.specs.PartCovers.{relations_from}
+use Rattle.hap_words.specs.Asked.{SearchSpot}
 use Rattle.hap_ends.specs.declared.refusal.Refusal.{Refusal}
+use Rattle.hap_ends.specs.declared.refusal.Refusal.TheVariants as refused
 use Rattle.hap_ends.specs.declared.refusal.Refusal.TheVariants.{Text, Space, Array, Irregular, Chains, Word}
 
 abbrev pub chain_limit : ℕ
@@ -86,6 +96,24 @@ abbrev pub only_worded : Result Layers Refusal → Result Layers Refusal
 only_worded (Ok space) = unless_long space (long_word space)
 only_worded (Err refusal) = Err refusal
 
+abbrev pub only_worded_from : (first : ℕ) → Result Layers Refusal → Result Layers Refusal
+only_worded_from first (Ok space) = unless_long space (long_from space first)
+only_worded_from first (Err refusal) = Err refusal
+
+abbrev pub is_live_first : List Relations → (n : ℕ) → Position → Bool
+is_live_first [] n t = false
+is_live_first (P ∷ Ps) n t = nat_le 1 t.0 && (nat_le t.0 n && is_live P t.0 t.1)
+
+abbrev pub is_begin : List Relations → (n : ℕ) → Position → Bool
+is_begin Ps n t = ((t.0 == 0) && (length t.1 == 0)) || is_live_first Ps n t
+
+abbrev pub position_in : SearchSpot → Position
+position_in spot = (spot.1, spot.2)
+
+abbrev pub only_begun : (n : ℕ) → SearchSpot → Result Layers Refusal → Result Layers Refusal
+only_begun n spot (Ok space) = if is_begin (relations_from space spot.0) n (position_in spot) then Ok space else Err refused.Position
+only_begun n spot (Err refusal) = Err refusal
+
 abbrev pub regular_in : Kind → List ℕ → Result Layers Refusal
 regular_in kind bytes = only_regular (space_in kind bytes)
 
@@ -94,3 +122,6 @@ few_in kind bytes = only_few (regular_in kind bytes)
 
 abbrev pub worded_in : Kind → List ℕ → Result Layers Refusal
 worded_in kind bytes = only_worded (regular_in kind bytes)
+
+abbrev pub begun_in : Kind → List ℕ → (n : ℕ) → SearchSpot → Result Layers Refusal
+begun_in kind bytes n spot = only_begun n spot (only_worded_from spot.0 (regular_in kind bytes))

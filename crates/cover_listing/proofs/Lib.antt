@@ -1,0 +1,10 @@
+mod Counting
+mod Cuts
+mod Firsts
+mod Going
+mod OfCovers
+mod Passing
+mod Running
+mod Seeking
+mod Starting
+mod Telling
