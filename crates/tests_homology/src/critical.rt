@@ -2,14 +2,14 @@
 // from 2 to 3 and 4. What is wanted was worked out by hand, over the field of three elements.
 ghost use Rattle.std.specs.Prelude.{◌≡◌, ◌≤◌, length, IfOk};
 ghost use Rattle.split_laws.specs.Kinds.{criticals};
-ghost use Rattle.critical_complex.specs.Splits.{kinds_at};
+ghost use Rattle.critical_complex.specs.Levels.{kinds_at};
 
 use crate::worked::{CIRCLE, read};
 use critical_complex::Reduced;
 use face_poset::{Pair, Signed};
 use field_matrix::Row;
 use order_complex::Chains;
-use small_field::{Cochain, Field, Gfp};
+use small_field::{Cochain, Field, Gf4, Gf9, Gfp};
 use std::alloc::{AllocError, Global};
 use std::process::Abort;
 use std::test::Fail;
@@ -182,8 +182,12 @@ fn compare_cycle<F: Field>(rt: &(impl Abort + AllocGlobal), minus_one: u32) -> R
 fn goes_round_the_circle_over_each_field(rt: HostRuntime) -> Result<(), Fail> {
     compare_cycle::<Gfp<2>>(&rt, 1)?;
     compare_cycle::<Gfp<3>>(&rt, 2)?;
+    compare_cycle::<Gf4>(&rt, 1)?;
     compare_cycle::<Gfp<5>>(&rt, 4)?;
-    compare_cycle::<Gfp<7>>(&rt, 6)
+    compare_cycle::<Gfp<7>>(&rt, 6)?;
+    compare_cycle::<Gf9>(&rt, 2)?;
+    compare_cycle::<Gfp<11>>(&rt, 10)?;
+    compare_cycle::<Gfp<13>>(&rt, 12)
 }
 
 /// What clears the cochain that is 1 on the first edge and 0 on the others, and what is left at the one critical

@@ -1,5 +1,5 @@
 // The laws of splits, asked of each field.
-use small_field::{Field, Gfp};
+use small_field::{Field, Gf4, Gf9, Gfp};
 use split_laws::{
     bases_extend, betti_by_reduced_ranks, cocycles_are_extensions, extensions_commute,
     extensions_pair, fields_split, flows_commute, reduced_is_closed, reduced_rows_are_coboundaries,
@@ -25,6 +25,10 @@ fn ask<F: Field>() {
 fn the_laws_of_splits_hold_over_each_field() {
     ask::<Gfp<2>>();
     ask::<Gfp<3>>();
+    ask::<Gf4>();
     ask::<Gfp<5>>();
     ask::<Gfp<7>>();
+    ask::<Gf9>();
+    ask::<Gfp<11>>();
+    ask::<Gfp<13>>();
 }

@@ -13,6 +13,8 @@ mod laws;
 #[cfg(test)]
 mod numbers;
 #[cfg(test)]
+mod stages;
+#[cfg(test)]
 mod values;
 #[cfg(test)]
 mod worked;

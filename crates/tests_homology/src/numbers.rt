@@ -65,7 +65,7 @@ fn listed(numbers: Betti) -> [u32; 4] {
     [numbers.zero, numbers.one, numbers.two, numbers.three]
 }
 
-/// Compares the numbers modulo a prime, by both ways, with these.
+/// Compares the numbers over the field with so many elements, by both ways, with these.
 fn compare(
     rt: &(impl Abort + AllocGlobal),
     space: &Space,
@@ -92,8 +92,12 @@ fn spaces_have_their_betti_numbers(rt: HostRuntime) -> Result<(), Fail> {
         let space = read(rt.alloc(), text)?;
         compare(&rt, &space, 2, even)?;
         compare(&rt, &space, 3, odd)?;
+        compare(&rt, &space, 4, even)?;
         compare(&rt, &space, 5, odd)?;
         compare(&rt, &space, 7, odd)?;
+        compare(&rt, &space, 9, odd)?;
+        compare(&rt, &space, 11, odd)?;
+        compare(&rt, &space, 13, odd)?;
     }
     Ok(())
 }

@@ -3,7 +3,7 @@ ghost use Rattle.std.specs.Prelude.{◌≡◌, ◌≤◌, IfOk, length};
 
 use crate::worked::{CIRCLE, read};
 use order_complex::Chains;
-use small_field::{Cochain, Field, Gfp};
+use small_field::{Cochain, Field, Gf4, Gf9, Gfp};
 use std::alloc::{AllocError, Global};
 use std::process::Abort;
 use std::test::Fail;
@@ -82,6 +82,10 @@ fn compare<F: Field>(rt: &(impl Abort + AllocGlobal), minus_one: u32) -> Result<
 fn values_on_the_circle_are_computed(rt: HostRuntime) -> Result<(), Fail> {
     compare::<Gfp<2>>(&rt, 1)?;
     compare::<Gfp<3>>(&rt, 2)?;
+    compare::<Gf4>(&rt, 1)?;
     compare::<Gfp<5>>(&rt, 4)?;
-    compare::<Gfp<7>>(&rt, 6)
+    compare::<Gfp<7>>(&rt, 6)?;
+    compare::<Gf9>(&rt, 2)?;
+    compare::<Gfp<11>>(&rt, 10)?;
+    compare::<Gfp<13>>(&rt, 12)
 }
