@@ -5,7 +5,8 @@ use Rattle.face_poset.specs.Poset.{Layers}
 use Rattle.small_field.specs.Field.{Ops}
 use Rattle.small_field.specs.Prime.{mod_ops}
 use Rattle.order_complex.specs.Chains.{chains_of}
-use Rattle.chain_laws.specs.Lines.{rank_holds, cocycle_holds, cycle_holds, pairing_holds, product_holds, count_holds}
+use Rattle.chain_laws.specs.Lines.{rank_holds, cocycle_holds, cycle_holds, pairing_holds, class_holds, product_holds, count_holds}
+use Rattle.chain_laws.specs.AllLines.{Line, homology_holds}
 
 abbrev circle : Layers
 circle = ([] ∷ [] ∷ []) ∷ ((1 ∷ 2 ∷ []) ∷ (1 ∷ 2 ∷ []) ∷ []) ∷ [] ∷ [] ∷ []
@@ -82,3 +83,45 @@ product-by-bound = refl
 
 product-of-other-bound : product_holds F 1 edges (at 2) points ones points edges (at 1 ∷ []) ((1, 2) ∷ []) (at 1) ≡ false
 product-of-other-bound = refl
+
+-- the same of the second edge without a product
+class-by-bound : class_holds F points edges (at 1 ∷ []) ((1, 2) ∷ []) ((1, 2) ∷ []) (0 ∷ 1 ∷ 0 ∷ 0 ∷ []) ≡ true
+class-by-bound = refl
+
+class-of-another-edge : class_holds F points edges (at 1 ∷ []) ((1, 2) ∷ []) ((1, 2) ∷ []) (0 ∷ 0 ∷ 0 ∷ 1 ∷ []) ≡ false
+class-of-another-edge = refl
+
+no-bound-below : class_holds F [] points (ones ∷ []) ((1, 2) ∷ []) [] (2 ∷ 2 ∷ 2 ∷ 2 ∷ []) ≡ true
+no-bound-below = refl
+
+-- ---- all lines
+
+line : (left right : List (ℕ × ℕ)) → Line
+line left right = record { left = left; right = right }
+
+ranks : List (List Line)
+ranks = (line (at 3) (at 1) ∷ line (at 4) (at 2) ∷ line (at 2) (at 3) ∷ []) ∷ []
+
+classes : List (List Line)
+classes = (line ones (at 1) ∷ []) ∷ (line (at 1) round ∷ []) ∷ []
+
+all-lines : homology_holds F circle ranks classes ≡ true
+unfolding line ranks classes
+all-lines = refl
+
+-- the line with the last vertex first
+in-another-order : homology_holds F circle ((line (at 2) (at 3) ∷ line (at 3) (at 1) ∷ line (at 4) (at 2) ∷ []) ∷ []) classes ≡ false
+unfolding line classes
+in-another-order = refl
+
+one-line-less : homology_holds F circle ((line (at 3) (at 1) ∷ line (at 4) (at 2) ∷ []) ∷ []) classes ≡ false
+unfolding line classes
+one-line-less = refl
+
+no-class-round : homology_holds F circle ranks ((line ones (at 1) ∷ []) ∷ []) ≡ false
+unfolding line ranks
+no-class-round = refl
+
+a-class-that-is-no-cycle : homology_holds F circle ranks ((line ones (at 1) ∷ []) ∷ (line (at 1) (at 1) ∷ []) ∷ []) ≡ false
+unfolding line ranks
+a-class-that-is-no-cycle = refl

@@ -1,2 +1,4 @@
+mod AllLineLemmas
 mod Examples
 mod LineLemmas
+mod RowLemmas

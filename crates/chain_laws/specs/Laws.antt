@@ -3,18 +3,25 @@
 --   ClassLinesAreCocycles F     the left side of a class line is a cocycle
 --   ProductLinesAreProducts F   a product line gives an entry of the cup table
 --   TestsAreEquations F         the test of each line holds exactly where its equations hold
+--   ValuesFitEntries F          coboundaries, boundaries and values of what has given entries, by the rows of the coboundaries
+--   EquationsAreTests F         the tests of all lines hold exactly where their equations by rows hold
+--   ClassTestsAreClasses F      a cochain that passes the test is a combination of the left sides plus a coboundary
 use Rattle.std.specs.Prelude.{◌≡◌, ◌≢◌, ◌↔◌, ℕ, suc, ◌+◌, List, true, length, map, replicate}
 use Rattle.std.specs.List.{AllByRecursion}
 use Rattle.face_poset.specs.Poset.{Layers}
 use Rattle.small_field.specs.Field.{Ops}
 use Rattle.linear_laws.specs.Marks.{mark}
-use Rattle.linear_laws.specs.Vectors.{IsVector, combination, plus_scaled}
+use Rattle.linear_laws.specs.Vectors.{IsVector, combination, dot, plus_scaled}
+use Rattle.linear_laws.specs.Vectors.{boundary as boundary_by}
 use Rattle.order_complex.specs.Chains.{chains_of}
-use Rattle.order_complex.specs.Cochains.{boundary_on, coboundary_on}
+use Rattle.order_complex.specs.Cochains.{boundary_on, coboundary, coboundary_on}
 use Rattle.order_complex.specs.Cup.{IsProduct, cup_at}
-use Rattle.order_complex.specs.Homology.{IsCocycle}
-use Rattle.chain_laws.specs.Lines.{AreEntries, cochain_of, cochain_in, value_on, rank_holds, cocycle_holds, cycle_holds, pairing_holds, product_holds}
-use Rattle.small_field.specs.Values.{entries_from}
+use Rattle.order_complex.specs.Homology.{IsCocycle, IsClass}
+use Rattle.order_complex.specs.Ranks.{rows_into}
+use Rattle.chain_laws.specs.Lines.{AreEntries, chains_below, cochain_of, cochain_in, value_on, rank_holds, cocycle_holds, cycle_holds, pairing_holds, product_holds, class_holds}
+use Rattle.chain_laws.specs.AllLines.{Line, homology_holds, coboundary_in, HaveEntries, AreHomology}
+use Rattle.small_field.specs.Sparse.{IsSparse}
+use Rattle.small_field.specs.Values.{AreElements, entries_from}
 
 -- the entries of a cochain, read back, are the cochain, and the other way round
 pub record EntriesAreCochains (F : Ops) : Type 0 where
@@ -58,3 +65,31 @@ pub record TestsAreEquations (F : Ops) : Type 0 where
       ↔ (map (cup_at F i chains_i (cochain_of (length chains_i) a) chains_j (cochain_of (length chains_j) b)) chains
       ≡ plus_scaled F 1 (coboundary_on F below chains (cochain_of (length below) bound))
       (combination F (length chains) (cochain_of (length lefts) coefficients) (map (cochain_of (length chains)) lefts)))
+
+-- coboundaries, boundaries and values by rows
+pub record ValuesFitEntries (F : Ops) : Type 0 where
+  -- the entries of a list of elements stand at its places
+  pub entries_of : (xs : List ℕ) → AreElements F xs → IsSparse (entries_from 1 xs) → AreEntries F (length xs) (entries_from 1 xs)
+  -- the coboundary of a cochain of the degree
+  pub coboundary_of : (space : Layers) (degree : ℕ) (entries : List (ℕ × ℕ)) → AreEntries F (length (chains_of space degree)) entries → coboundary F space degree (cochain_in space degree entries) ≡ coboundary_in F space degree entries
+  -- the coboundary, into the degree, of a cochain of one degree less; zero in degree 0
+  pub coboundary_into : (space : Layers) (degree : ℕ) (entries : List (ℕ × ℕ)) → AreEntries F (length (chains_below space degree)) entries
+      → coboundary_on F (chains_below space degree) (chains_of space degree) (cochain_of (length (chains_below space degree)) entries)
+      ≡ combination F (length (chains_of space degree)) (cochain_of (length (chains_below space degree)) entries) (rows_into F space degree)
+  -- the boundary of a chain with coefficients
+  pub boundary_of : (space : Layers) (degree : ℕ) (c : List ℕ) → boundary_on F (chains_below space degree) (chains_of space degree) c ≡ boundary_by F (rows_into F space degree) c
+  -- the value of a cochain on as many chains
+  pub value_of : (count : ℕ) (x : List ℕ) (entries : List (ℕ × ℕ)) → length x ≡ count → value_on F x entries ≡ dot F x (cochain_of count entries)
+
+-- the tests of all lines, and of a class, hold exactly where their equations hold
+pub record EquationsAreTests (F : Ops) : Type 0 where
+  pub homology : (space : Layers) (ranks classes : List (List Line)) → HaveEntries F space ranks classes → (homology_holds F space ranks classes ≡ true) ↔ AreHomology F space ranks classes
+  pub class : (below chains : List (List ℕ)) (lefts : List (List (ℕ × ℕ))) (coefficients bound : List (ℕ × ℕ)) (x : List ℕ)
+      → (class_holds F below chains lefts coefficients bound x ≡ true)
+      ↔ (x ≡ plus_scaled F 1 (coboundary_on F below chains (cochain_of (length below) bound)) (combination F (length chains) (cochain_of (length lefts) coefficients) (map (cochain_of (length chains)) lefts)))
+
+-- what passes the test of a class is a combination of the left sides plus a coboundary
+abbrev pub ClassTestsAreClasses : Ops → Type 0
+ClassTestsAreClasses F =
+    (space : Layers) (degree : ℕ) (lefts : List (List (ℕ × ℕ))) (coefficients bound : List (ℕ × ℕ)) (x : List ℕ) → AreEntries F (length lefts) coefficients → AreEntries F (length (chains_below space degree)) bound
+    → class_holds F (chains_below space degree) (chains_of space degree) lefts coefficients bound x ≡ true → IsClass F space degree (map (cochain_in space degree) lefts) (cochain_of (length lefts) coefficients) x

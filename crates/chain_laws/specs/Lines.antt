@@ -10,6 +10,8 @@
 --   cocycle_holds F chains next left                a class line: its left side is a cocycle
 --   cycle_holds F below chains right                a class line: its right side is a cycle
 --   pairing_holds F chains rights place left        a class line at a place from 0 on: 1 on its own right side, 0 on the others
+--   class_holds F below chains lefts coefficients bound x
+--                                                   the cochain x is a combination of the left sides plus the coboundary of the bound
 --   product_holds F i chains_i a chains_j b below chains lefts coefficients bound
 --                                                   a product line: of a and b, of degrees i and j, in the left sides of degree i + j
 --   count_holds chains rank_last rank_next classes  a degree: how many rank lines and class lines it has
@@ -73,15 +75,19 @@ cycle_holds F below chains right = all_zero (boundary_on F below chains (cochain
 abbrev pub pairing_holds : Ops → (chains : List (List ℕ)) → (rights : List (List (ℕ × ℕ))) → (place : ℕ) → (left : List (ℕ × ℕ)) → Bool
 pairing_holds F chains rights place left = bytes_eq (map (value_on F (cochain_of (length chains) left)) rights) (mark (length rights) place)
 
+-- on all chains, the cochain x is the combination of the left sides of its degree plus the coboundary of the bounding cochain
+abbrev pub class_holds : Ops → (below chains : List (List ℕ)) → (lefts : List (List (ℕ × ℕ))) → (coefficients bound : List (ℕ × ℕ)) → (x : List ℕ) → Bool
+class_holds F below chains lefts coefficients bound x =
+    let n : ℕ = length chains in
+    let classes : List ℕ = combination F n (cochain_of (length lefts) coefficients) (map (cochain_of n) lefts) in
+    bytes_eq x (plus_scaled F 1 (coboundary_on F below chains (cochain_of (length below) bound)) classes)
+
 -- a product line: on all chains, the product of the left sides a and b, of degrees i and j, is the combination of the left
 -- sides of degree i + j plus the coboundary of the bounding cochain
 abbrev pub product_holds : Ops → (i : ℕ) → (chains_i : List (List ℕ)) → (a : List (ℕ × ℕ)) → (chains_j : List (List ℕ)) → (b : List (ℕ × ℕ))
     → (below chains : List (List ℕ)) → (lefts : List (List (ℕ × ℕ))) → (coefficients bound : List (ℕ × ℕ)) → Bool
 product_holds F i chains_i a chains_j b below chains lefts coefficients bound =
-    let n : ℕ = length chains in
-    let product : List ℕ = map (cup_at F i chains_i (cochain_of (length chains_i) a) chains_j (cochain_of (length chains_j) b)) chains in
-    let classes : List ℕ = combination F n (cochain_of (length lefts) coefficients) (map (cochain_of n) lefts) in
-    bytes_eq product (plus_scaled F 1 (coboundary_on F below chains (cochain_of (length below) bound)) classes)
+    class_holds F below chains lefts coefficients bound (map (cup_at F i chains_i (cochain_of (length chains_i) a) chains_j (cochain_of (length chains_j) b)) chains)
 
 -- a degree: its chains are as many as the rank lines of the degree, those of one degree less and the class lines of the degree
 abbrev pub count_holds : (chains : List (List ℕ)) → (rank_last rank_next classes : ℕ) → Bool
