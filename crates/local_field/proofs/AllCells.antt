@@ -2,10 +2,10 @@
 use Rattle.std.proofs.Common.{◌≡◌, ◌≢◌, ◌⊎◌, inl, inr, ℕ, zero, suc, ◌+◌, ◌-◌, ◌<◌, ◌≤◌, List, [], ◌∷◌, ◌++◌, Bool, true, false, not, ◌==◌, map, reverse, length, get_or, refl, ap, sym, ◌∙◌, subst, arith}
 use Rattle.std.specs.List.{AllByRecursion, flat_map, range_with_len}
 use Rattle.std.proofs.lemmas.Bool.{false≢true, not-true, not_from_false}
-use Rattle.std.proofs.lemmas.List.{length-map, reverse-reverse}
+use Rattle.std.proofs.lemmas.List.{reverse-reverse}
 use native.Mathlib.Decide.{dec_lt}
 use Prim.{yes, no}
-use Rattle.number_lists.specs.Words.{upto, holds}
+use Rattle.number_lists.specs.Words.{upto}
 use Rattle.number_lists.specs.Members.{In, here, there}
 use Rattle.number_lists.proofs.CallerLemmas.{In-cases, In-map, map-In, append-In, In-left, In-right, In-flat_map, flat_map-In, In-upto, upto-In, range-In, In-filter, filter-In, In-inside, In-Contains, Contains-In, same_holds, at-In}
 use Rattle.face_poset.specs.declared.cells.Pair.{Pair}
@@ -18,19 +18,19 @@ use Rattle.order_complex.specs.Cochains.{leave_out}
 use Rattle.order_complex.specs.Complex.{complex_of, number_or_zero}
 use Rattle.order_complex.specs.Laws.{FacesAreBelow, ChainsAreSequences}
 use Rattle.order_complex.proofs.CallerLemmas.{number-of, count-chains}
-use Rattle.vector_field.specs.Pairs.{is_incident, is_used, unpaired, others, critical_of, IsValid, IsFieldOf}
-use Rattle.vector_field.proofs.CallerLemmas.{Lined, lined-append, Apart, Goes, IsLined, valid-from, Uses, used-In, unused-from, Incident, incident-from, critical-is}
-use Rattle.local_field.specs.Towers.{TowerPair, facets, inner, local, top_of, rest_of, Pairwise}
+use Rattle.vector_field.specs.Pairs.{is_incident, is_used, unpaired, critical_of, IsFieldOf}
+use Rattle.vector_field.proofs.CallerLemmas.{Lined, lined-append, Goes, IsLined, valid-from, Uses, used-In, unused-from, Incident, incident-from, critical-is}
+use Rattle.local_field.specs.Towers.{TowerPair, facets, inner, top_of, rest_of, Pairwise}
 use Rattle.local_field.specs.Inside.{IsFull, IsTower, FitsUnder, NotUp, InnerApart, Differ, HasTower, LeavesOver}
 use Rattle.local_field.specs.Buildings.{dim_at, is_below, flag_of, flag_at, building_at, pairs_inside, IsCollapsing}
-use Rattle.local_field.specs.Numbered.{number_of, numbered, all_inside, local_pairs, local_field_of, flag_numbers, LeavesFlags, IsLocalField}
+use Rattle.local_field.specs.Numbered.{number_of, numbered, all_inside, local_pairs, local_field_of, flag_numbers, IsLocalField}
 use Rattle.local_field.proofs.FlagLaw.{dim-id, full}
-use Rattle.local_field.proofs.Cells.{id-parts, id-same, below-parts, falls, trans, nothing-below, point-dim}
+use Rattle.local_field.proofs.Cells.{InRange, id-range, face-range, id-same, below-parts, trans, nothing-below}
 use Rattle.local_field.proofs.Flagged.{flagged, cells_leave}
 use Rattle.local_field.proofs.InsideCells.{all_both_to, facet_length, full_length}
 use Rattle.local_field.proofs.BuildingLemmas.{In-of-all}
 use Rattle.local_field.proofs.Inner.{IsInner, full-tower, local-inner, local-stands, inner-facet, inner-tower}
-use Rattle.local_field.proofs.ChainTowers.{InRange, IsRoom, IsNumber, id-range, at-id, below-range, tower-chain, chain-tower, numbered-chain, tower-number, tower-same, facet-number, number-facet, left-facet}
+use Rattle.local_field.proofs.ChainTowers.{IsRoom, IsNumber, at-id, tower-chain, chain-tower, numbered-chain, tower-number, tower-same, facet-number, number-facet, left-facet}
 
 -- ---- lists
 
@@ -235,7 +235,7 @@ module _ (rounds : CyclesGoRound) (faces : FacesAreBelow) (sequences : ChainsAre
   rooms p h =
       let c : ℕ = id_of space (cell_at (suc h.under) h.number) in
       let k : IsIn c p = at-in p h in
-      let r : InRange space valid faces sequences c = id-range space valid faces sequences (suc h.under) h.number h.small h.low h.high in
+      let r : InRange space c = id-range space (suc h.under) h.number h.small h.low h.high in
       let s = k.own.short in
       let o = k.own.one in
       let e = ap length k.own.is_low in
@@ -244,8 +244,8 @@ module _ (rounds : CyclesGoRound) (faces : FacesAreBelow) (sequences : ChainsAre
         degree = length p.low - 1;
         small = omega (arith, s, o, d);
         is = refl;
-        low = record { tower = inner-tower (is_below space) (dim_at space) (building_at space collapse) (flag_at space) (flagged rounds space collapse valid regular collapsing) (trans space valid) p.low p.up k.tower k.facet; range = subst (InRange space valid faces sequences) (sym (low_top c p k)) r; long = omega (arith, e) };
-        up = record { tower = k.tower; range = subst (InRange space valid faces sequences) (sym (up_top c p k)) r; long = omega (arith, e, o) };
+        low = record { tower = inner-tower (is_below space) (dim_at space) (building_at space collapse) (flag_at space) (flagged rounds space collapse valid regular collapsing) (trans space valid) p.low p.up k.tower k.facet; range = subst (InRange space) (sym (low_top c p k)) r; long = omega (arith, e) };
+        up = record { tower = k.tower; range = subst (InRange space) (sym (up_top c p k)) r; long = omega (arith, e, o) };
       }
 
   abbrev complex : List (List (List ℕ))
@@ -270,10 +270,10 @@ module _ (rounds : CyclesGoRound) (faces : FacesAreBelow) (sequences : ChainsAre
       elim (In-cases i) [
         | inl e ↦
             subst (λ (x : List ℕ). IsRoom space valid faces sequences x degree) (sym e)
-            (record { tower = h.tower.1; range = (below-range space valid faces sequences c g h.tower.0).0; long = omega (arith, l) })
+            (record { tower = h.tower.1; range = (face-range space valid c g h.tower.0).0; long = omega (arith, l) })
         | inr j ↦ record {
           tower = inner-tower (is_below space) (dim_at space) (building_at space collapse) (flag_at space) (flagged rounds space collapse valid regular collapsing) (trans space valid) s (g ∷ c ∷ t) h.tower j;
-          range = subst (InRange space valid faces sequences) (sym (inner-top s (g ∷ c ∷ t) j)) h.range;
+          range = subst (InRange space) (sym (inner-top s (g ∷ c ∷ t) j)) h.range;
           long = omega (arith, long, l);
         }
       ]
@@ -347,15 +347,15 @@ module _ (rounds : CyclesGoRound) (faces : FacesAreBelow) (sequences : ChainsAre
   flag-room : (d n : ℕ) → d ≤ 3 → 1 ≤ n → n ≤ count space d → IsRoom space valid faces sequences (flag_of space d n) d
   flag-room d n small low high = by d n small low high (full space valid d n small low high)
     where
-      room : (d c : ℕ) (rest : List ℕ) → InRange space valid faces sequences c → dim_at space c ≡ d → IsFull (is_below space) (dim_at space) (c ∷ rest) → IsRoom space valid faces sequences (c ∷ rest) d
+      room : (d c : ℕ) (rest : List ℕ) → InRange space c → dim_at space c ≡ d → IsFull (is_below space) (dim_at space) (c ∷ rest) → IsRoom space valid faces sequences (c ∷ rest) d
       room d c rest r e f =
           let all = flagged rounds space collapse valid regular collapsing in
           let l = full_length (is_below space) (dim_at space) (building_at space collapse) (flag_at space) all.falls all.builds all.tops all.full c rest f in
           record { tower = full-tower (is_below space) (dim_at space) (building_at space collapse) (flag_at space) (flagged rounds space collapse valid regular collapsing) (c ∷ rest) f; range = r; long = l ∙ ap suc e }
 
       by : (d n : ℕ) → d ≤ 3 → 1 ≤ n → n ≤ count space d → IsFull (is_below space) (dim_at space) (flag_of space d n) → IsRoom space valid faces sequences (flag_of space d n) d
-      by zero n small low high f = room 0 (id_of space (cell_at 0 n)) [] (id-range space valid faces sequences 0 n small low high) (dim-id space 0 n small low high) f
-      by (suc d) n small low high f = room (suc d) (id_of space (cell_at (suc d) n)) (rest_of (flag_of space (suc d) n)) (id-range space valid faces sequences (suc d) n small low high) (dim-id space (suc d) n small low high) f
+      by zero n small low high f = room 0 (id_of space (cell_at 0 n)) [] (id-range space 0 n small low high) (dim-id space 0 n small low high) f
+      by (suc d) n small low high f = room (suc d) (id_of space (cell_at (suc d) n)) (rest_of (flag_of space (suc d) n)) (id-range space (suc d) n small low high) (dim-id space (suc d) n small low high) f
 
   flag-top : (d n : ℕ) → top_of (flag_of space d n) ≡ id_of space (cell_at d n)
   flag-top zero n = refl

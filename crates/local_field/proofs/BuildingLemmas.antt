@@ -1,5 +1,5 @@
 -- The cells of the pairs of a building, as a list.
-use Rattle.std.proofs.Common.{◌≡◌, ◌⊎◌, inl, inr, ℕ, List, [], ◌∷◌, ◌++◌, refl, ap, sym, ◌∙◌, subst}
+use Rattle.std.proofs.Common.{◌≡◌, inl, inr, ℕ, List, [], ◌∷◌, ◌++◌, refl, ap, sym, subst}
 use Rattle.std.specs.List.{AllByRecursion}
 use Rattle.number_lists.specs.Members.{In, here, there}
 use Rattle.number_lists.proofs.CallerLemmas.{In-cases}

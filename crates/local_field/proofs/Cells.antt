@@ -1,19 +1,19 @@
 -- Cells by their ids: dimensions, what is below a cell, and the flags of all ids.
-use Rattle.std.proofs.Common.{◌≡◌, ◌⊎◌, inl, inr, ℕ, zero, suc, ◌+◌, ◌-◌, ◌<◌, ◌≤◌, List, [], ◌∷◌, ◌++◌, Bool, true, false, leb, map, Contains, refl, ap, sym, ◌∙◌, subst, arith}
+use Rattle.std.proofs.Common.{◌≡◌, ◌⊎◌, inl, inr, ℕ, zero, suc, ◌+◌, ◌-◌, ◌<◌, ◌≤◌, List, [], ◌∷◌, Bool, true, leb, map, Contains, refl, ap, sym, ◌∙◌, subst, arith}
 use Rattle.std.proofs.lemmas.Bool.{le-leb}
 use native.Mathlib.Decide.{dec_lt}
 use Prim.{yes, no}
 use Rattle.number_lists.specs.Members.{In}
 use Rattle.number_lists.proofs.CallerLemmas.{append-In, Contains-In, In-Contains, In-left, In-map, map-In, In-holds, holds-In}
 use Rattle.face_poset.specs.declared.cells.Cell.{Cell}
-use Rattle.face_poset.specs.Poset.{IsSpace, count, facets_of}
+use Rattle.face_poset.specs.Poset.{IsSpace, count, cell_count, facets_of}
 use Rattle.face_poset.specs.Below.{cell_at, closed_cell, closure, facets_of_all, IsBelow, itself, facet}
 use Rattle.face_poset.proofs.CallerLemmas.{closed_cell-least}
 use Rattle.order_complex.specs.Chains.{cells_before, id_of, faces_of}
 use Rattle.local_field.specs.Towers.{rest_of}
 use Rattle.local_field.specs.Inside.{IsFull}
 use Rattle.local_field.specs.Buildings.{dim_at, number_at, is_below, flag_of, flag_at}
-use Rattle.local_field.proofs.FlagLaw.{dim-id, number-id, facet-range, full, level-0, level-1, level-2, level-3, level-4, not-le}
+use Rattle.local_field.proofs.FlagLaw.{dim-id, number-id, facet-range, full, level-0, level-4, not-le}
 
 -- ---- what is below, by dimension and number
 
@@ -91,6 +91,17 @@ module _ (space : List (List (List ℕ))) where
   id-same d n e m a b c f g h s =
       (sym (dim-id space d n a b c) ∙ (ap (dim_at space) s ∙ dim-id space e m f g h), sym (number-id space d n a b c) ∙ (ap (number_at space) s ∙ number-id space e m f g h))
 
+  -- ids of cells that are there
+  abbrev pub InRange : ℕ → Type 0
+  InRange id = (1 ≤ id) × (id ≤ cell_count space)
+
+  pub id-range : (d n : ℕ) → d ≤ 3 → 1 ≤ n → n ≤ count space d → InRange (id_of space (cell_at d n))
+  id-range zero n small low high = (omega (arith, low), omega (arith, high))
+  id-range (suc zero) n small low high = (omega (arith, low), omega (arith, high))
+  id-range (suc (suc zero)) n small low high = (omega (arith, low), omega (arith, high))
+  id-range (suc (suc (suc zero))) n small low high = (omega (arith, low), omega (arith, high))
+  id-range (suc (suc (suc (suc d)))) n small low high = absurd (omega (arith, small))
+
   module _ (valid : IsSpace space) where
     -- what is below a cell is there
     pub below-range : {d n e m : ℕ} → 1 ≤ n → n ≤ count space d → IsBelow space d n e m → (1 ≤ m) × (m ≤ count space e)
@@ -131,6 +142,14 @@ module _ (space : List (List (List ℕ))) where
             (closed_cell-least space (suc d) p.number valid p.low p.high r.0.dim r.0.number).0 (In-Contains (In-left (cell_at (suc d) p.number ∷ []) r.1)) in
             let w = below-range p.low p.high b in
             record { cell = p; dim = r.0.dim; number = r.0.number; under = closure-low d (facets_of_all space d (p.number ∷ [])) r.0 r.1; low = w.0; high = w.1; is = r.2; below = b }
+
+    -- a face and its cell are there
+    pub face-range : (x c : ℕ) → is_below space x c ≡ true → InRange x × InRange c
+    face-range x c h =
+        let p = below-parts x c h in
+        let u = p.under in
+        let v = p.cell.small in
+        (subst InRange (sym p.is) (id-range p.dim p.number (omega (arith, u, v)) p.low p.high), subst InRange (sym p.cell.is) (id-range (suc p.cell.under) p.cell.number p.cell.small p.cell.low p.cell.high))
 
     pub below-from : (d n e m : ℕ) → suc d ≤ 3 → 1 ≤ n → n ≤ count space (suc d) → e ≤ d → IsBelow space (suc d) n e m → is_below space (id_of space (cell_at e m)) (id_of space (cell_at (suc d) n)) ≡ true
     below-from d n e m small low high under b =

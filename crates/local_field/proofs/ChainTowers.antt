@@ -1,24 +1,23 @@
 -- Towers are chains read from their end.
-use Rattle.std.proofs.Common.{◌≡◌, ◌≢◌, ◌⊎◌, inl, inr, ℕ, zero, suc, ◌+◌, ◌-◌, ◌<◌, ◌≤◌, List, [], ◌∷◌, ◌++◌, Bool, true, map, reverse, length, get_or, refl, ap, sym, ◌∙◌, subst, arith}
-use Rattle.std.proofs.lemmas.List.{reverse-append, reverse-reverse, append_assoc, append-nil, length-append, length-reverse, get_or-map}
+use Rattle.std.proofs.Common.{◌≡◌, inl, inr, ℕ, zero, suc, ◌+◌, ◌-◌, ◌<◌, ◌≤◌, List, [], ◌∷◌, ◌++◌, true, map, reverse, length, get_or, refl, ap, sym, ◌∙◌, subst, arith}
+use Rattle.std.proofs.lemmas.List.{reverse-append, reverse-reverse, append_assoc, length-reverse, get_or-map}
 use native.Mathlib.Decide.{dec_lt}
 use Prim.{yes, no}
 use Rattle.number_lists.specs.Members.{In, here, there}
-use Rattle.number_lists.proofs.CallerLemmas.{In-cases, In-map, map-In, In-left, In-right, In-reverse, reverse-In, at-In}
-use Rattle.face_poset.specs.declared.cells.Cell.{Cell}
-use Rattle.face_poset.specs.Poset.{IsSpace, count, cell_count, facets_of}
+use Rattle.number_lists.proofs.CallerLemmas.{In-cases, In-map, map-In, In-reverse, reverse-In}
+use Rattle.face_poset.specs.Poset.{IsSpace, count, facets_of}
 use Rattle.face_poset.specs.Below.{cell_at, IsBelow}
-use Rattle.order_complex.specs.Chains.{cells_before, id_of, all_faces, chains_of}
+use Rattle.order_complex.specs.Chains.{cells_before, id_of, chains_of}
 use Rattle.order_complex.specs.Cochains.{leave_out}
-use Rattle.order_complex.specs.Complex.{complex_of, number_or_zero, facet_numbers, facet_lists, HasId}
-use Rattle.order_complex.specs.Sequences.{IsAbove, Follows, IsChain}
+use Rattle.order_complex.specs.Complex.{complex_of, number_or_zero, facet_numbers}
+use Rattle.order_complex.specs.Sequences.{IsAbove, Follows}
 use Rattle.order_complex.specs.Laws.{FacesAreBelow, ChainsAreSequences}
-use Rattle.order_complex.proofs.CallerLemmas.{number-of, layer-facets, count-chains}
+use Rattle.order_complex.proofs.CallerLemmas.{number-of, layer-facets}
 use Rattle.local_field.specs.Towers.{facets, top_of}
 use Rattle.local_field.specs.Inside.{IsTower}
-use Rattle.local_field.specs.Buildings.{dim_at, is_below}
+use Rattle.local_field.specs.Buildings.{is_below}
 use Rattle.local_field.specs.Numbered.{number_of}
-use Rattle.local_field.proofs.Cells.{IsFaceAt, below-parts, below-from}
+use Rattle.local_field.proofs.Cells.{InRange, face-range, below-parts, below-from}
 
 -- ---- one entry left out, from either end
 
@@ -62,16 +61,6 @@ left-facet s t i =
 module _ (space : List (List (List ℕ))) (valid : IsSpace space) (faces : FacesAreBelow) (sequences : ChainsAreSequences) where
   -- ---- ids that are there
 
-  abbrev pub InRange : ℕ → Type 0
-  InRange id = (1 ≤ id) × (id ≤ cell_count space)
-
-  pub id-range : (d n : ℕ) → d ≤ 3 → 1 ≤ n → n ≤ count space d → InRange (id_of space (cell_at d n))
-  id-range zero n small low high = (omega (arith, low), omega (arith, high))
-  id-range (suc zero) n small low high = (omega (arith, low), omega (arith, high))
-  id-range (suc (suc zero)) n small low high = (omega (arith, low), omega (arith, high))
-  id-range (suc (suc (suc zero))) n small low high = (omega (arith, low), omega (arith, high))
-  id-range (suc (suc (suc (suc d)))) n small low high = absurd (omega (arith, small))
-
   pub record IsAt (id : ℕ) : Type 0 where
     pub dim : ℕ
     pub number : ℕ
@@ -83,7 +72,7 @@ module _ (space : List (List (List ℕ))) (valid : IsSpace space) (faces : Faces
   at_dim : (id dim : ℕ) → dim ≤ 3 → cells_before space dim < id → id ≤ cells_before space dim + count space dim → IsAt id
   at_dim id dim small low high = record { dim = dim; number = id - cells_before space dim; small = small; low = omega (arith, low); high = omega (arith, low, high); is = omega (arith, low) }
 
-  pub at-id : (id : ℕ) → InRange id → IsAt id
+  pub at-id : (id : ℕ) → InRange space id → IsAt id
   at-id id r =
       elim (dec_lt (cells_before space 1) id) [
         | no a ↦ at_dim id 0 (omega arith) (omega (arith, r.0)) (omega arith)
@@ -98,17 +87,10 @@ module _ (space : List (List (List ℕ))) (valid : IsSpace space) (faces : Faces
 
   -- ---- below and above
 
-  pub below-range : (x c : ℕ) → is_below space x c ≡ true → InRange x × InRange c
-  below-range x c h =
-      let p = below-parts space valid x c h in
-      let u = p.under in
-      let v = p.cell.small in
-      (subst InRange (sym p.is) (id-range p.dim p.number (omega (arith, u, v)) p.low p.high), subst InRange (sym p.cell.is) (id-range (suc p.cell.under) p.cell.number p.cell.small p.cell.low p.cell.high))
-
   above-from : (x c : ℕ) → is_below space x c ≡ true → IsAbove space x c
   above-from x c h =
       let p = below-parts space valid x c h in
-      let r = (below-range x c h).1 in
+      let r = (face-range space valid x c h).1 in
       let u = p.under in
       let v = p.cell.small in
       record {
@@ -120,7 +102,7 @@ module _ (space : List (List (List ℕ))) (valid : IsSpace space) (faces : Faces
             (record { small = omega (arith, u, v); low = p.low; high = p.high; is = sym p.is })).1 (p.below, omega (arith, u));
       }
 
-  below-above : (x c : ℕ) → InRange x → IsAbove space x c → is_below space x c ≡ true
+  below-above : (x c : ℕ) → InRange space x → IsAbove space x c → is_below space x c ≡ true
   below-above x c r h =
       let a = at-id x r in
       let b = at-id c (h.low, h.high) in
@@ -141,19 +123,19 @@ module _ (space : List (List (List ℕ))) (valid : IsSpace space) (faces : Faces
     pub rest : List ℕ
     pub is : xs ≡ first ∷ rest
     pub long : length rest ≡ n
-    pub range : InRange first
+    pub range : InRange space first
     pub follows : Follows space first rest
 
-  starts : (t : List ℕ) (g : ℕ) (acc : List ℕ) → IsTower (is_below space) (g ∷ t) → InRange g → Follows space g acc → Starts (reverse t ++ g ∷ acc) (length t + length acc)
+  starts : (t : List ℕ) (g : ℕ) (acc : List ℕ) → IsTower (is_below space) (g ∷ t) → InRange space g → Follows space g acc → Starts (reverse t ++ g ∷ acc) (length t + length acc)
   starts [] g acc h r f = record { first = g; rest = acc; is = refl; long = omega arith; range = r; follows = f }
   starts (c ∷ t) g acc h r f =
-      let s = starts t c (g ∷ acc) h.1 (below-range c g h.0).0 (above-from c g h.0, f) in
+      let s = starts t c (g ∷ acc) h.1 (face-range space valid c g h.0).0 (above-from c g h.0, f) in
       record { first = s.first; rest = s.rest; is = turn-onto c t (g ∷ acc) ∙ s.is; long = s.long ∙ omega arith; range = s.range; follows = s.follows }
 
   -- a tower whose top is there, so long
   pub record IsRoom (t : List ℕ) (degree : ℕ) : Type 0 where
     pub tower : IsTower (is_below space) t
-    pub range : InRange (top_of t)
+    pub range : InRange space (top_of t)
     pub long : length t ≡ suc degree
 
   pub tower-chain : (t : List ℕ) (degree : ℕ) → IsRoom t degree → In (reverse t) (chains_of space degree)
@@ -163,10 +145,10 @@ module _ (space : List (List (List ℕ))) (valid : IsSpace space) (faces : Faces
       let l = h.long in
       sequences.all space degree (reverse (g ∷ t)) (record { first = s.first; rest = s.rest; is = turn g t ∙ s.is; long = s.long ∙ omega (arith, l); low = s.range.0; high = s.range.1; follows = s.follows })
 
-  ends : (rest : List ℕ) (first : ℕ) (acc : List ℕ) → Follows space first rest → InRange first → IsTower (is_below space) (first ∷ acc) → IsTower (is_below space) (reverse rest ++ first ∷ acc) × InRange (top_of (reverse rest ++ first ∷ acc))
+  ends : (rest : List ℕ) (first : ℕ) (acc : List ℕ) → Follows space first rest → InRange space first → IsTower (is_below space) (first ∷ acc) → IsTower (is_below space) (reverse rest ++ first ∷ acc) × InRange space (top_of (reverse rest ++ first ∷ acc))
   ends [] first acc f r h = (h, r)
   ends (b ∷ rest) first acc f r h =
-      subst (λ (xs : List ℕ). IsTower (is_below space) xs × InRange (top_of xs)) (sym (turn-onto b rest (first ∷ acc))) (ends rest b (first ∷ acc) f.1 (f.0.low, f.0.high) (below-above first b r f.0, h))
+      subst (λ (xs : List ℕ). IsTower (is_below space) xs × InRange space (top_of xs)) (sym (turn-onto b rest (first ∷ acc))) (ends rest b (first ∷ acc) f.1 (f.0.low, f.0.high) (below-above first b r f.0, h))
 
   pub chain-tower : (chain : List ℕ) (degree : ℕ) → In chain (chains_of space degree) → IsRoom (reverse chain) degree
   chain-tower chain degree i =
@@ -175,7 +157,7 @@ module _ (space : List (List (List ℕ))) (valid : IsSpace space) (faces : Faces
       let e : reverse chain ≡ reverse c.rest ++ c.first ∷ [] = ap reverse c.is ∙ turn c.first c.rest in
       record {
         tower = subst (IsTower (is_below space)) (sym e) t.0;
-        range = subst (λ (xs : List ℕ). InRange (top_of xs)) (sym e) t.1;
+        range = subst (λ (xs : List ℕ). InRange space (top_of xs)) (sym e) t.1;
         long = length-reverse chain ∙ (ap length c.is ∙ ap suc c.long);
       }
 

@@ -2,9 +2,8 @@
 use Rattle.std.proofs.Common.{◌≡◌, ◌≢◌, ◌⊎◌, inl, inr, ℕ, suc, ◌<◌, ◌≤◌, List, [], ◌∷◌, ◌++◌, Bool, true, false, cond, map, length, get_or, refl, ap, sym, ◌∙◌, subst, arith}
 use Rattle.std.specs.List.{AllByRecursion}
 use Rattle.std.specs.List.Sorted.{IsStrictlyIncreasing}
-use Rattle.number_lists.specs.Words.{holds}
 use Rattle.number_lists.specs.Members.{In, here, there}
-use Rattle.number_lists.proofs.CallerLemmas.{In-cases, In-map, map-In, In-left, In-right, append-In, In-holds, holds-In, at-In, AreDistinct, none, more}
+use Rattle.number_lists.proofs.CallerLemmas.{In-cases, In-map, map-In, In-left, In-right, append-In, In-holds, holds-In, at-In, AreDistinct, more}
 use Rattle.face_poset.specs.Poset.{IsSpace, count, facets_of}
 use Rattle.face_poset.specs.Below.{cell_at}
 use Rattle.order_complex.specs.Chains.{id_of}
@@ -14,10 +13,10 @@ use Rattle.regular_check.specs.Cycle.{cycle, start_of, end_of, GoesRound}
 use Rattle.sphere_collapses.proofs.CallerLemmas.{two_ends_kept, distinct-from}
 use Rattle.local_field.specs.Towers.{Pairwise}
 use Rattle.local_field.specs.Inside.{cells_of, IsAmong, FitsIn, NotAbove, IsBuilding}
-use Rattle.local_field.specs.Buildings.{dim_at, number_at, is_below, steps_after, steps_before, disk_building}
+use Rattle.local_field.specs.Buildings.{dim_at, is_below, steps_after, steps_before, disk_building}
 use Rattle.local_field.proofs.FlagLaw.{dim-id, number-id, facets-cell, facet-range, facet-below}
 use Rattle.local_field.proofs.Cells.{under-facet, over-facet, point-id, point-dim, nothing-below, id-same, falls}
-use Rattle.local_field.proofs.BuildingLemmas.{front, among-front, among-last, all-In}
+use Rattle.local_field.proofs.BuildingLemmas.{front, among-front, among-last}
 use Rattle.local_field.proofs.Paths.{cut-at, IsCut, Path, path-opened, path-ends, path-round, turned}
 
 -- the two of a list, in the order of a step

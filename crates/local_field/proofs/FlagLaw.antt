@@ -114,7 +114,7 @@ module _ (space : List (List (List ℕ))) where
 
     -- ---- flags
 
-    first-In : (d n : ℕ) → 1 ≤ n → n ≤ count space (suc d) → In (get_or (facets_of space (suc d) n) 0 0) (facets_of space (suc d) n)
+    pub first-In : (d n : ℕ) → 1 ≤ n → n ≤ count space (suc d) → In (get_or (facets_of space (suc d) n) 0 0) (facets_of space (suc d) n)
     first-In d n low high = at-In (facets_of space (suc d) n) 0 0 (omega (arith, (facets-cell d n low high).some))
 
     dims-fall : (d n : ℕ) → suc d ≤ 3 → 1 ≤ n → n ≤ count space (suc d) → dim_at space (id_of space (cell_at (suc d) n)) ≡ suc (dim_at space (id_of space (cell_at d (get_or (facets_of space (suc d) n) 0 0))))

@@ -1,5 +1,5 @@
 -- The flags and the buildings of a regular space are as the pairs inside a cell want them.
-use Rattle.std.proofs.Common.{◌≡◌, ◌⊎◌, inl, inr, ℕ, zero, suc, ◌≤◌, List, Bool, true, cond, eqb, refl, ap, sym, ◌∙◌, subst, arith}
+use Rattle.std.proofs.Common.{◌≡◌, inl, inr, ℕ, zero, suc, ◌≤◌, List, true, cond, eqb, ap, sym, ◌∙◌, subst, arith}
 use Rattle.number_lists.specs.Members.{In}
 use Rattle.number_lists.proofs.CallerLemmas.{In-Contains}
 use Rattle.face_poset.specs.declared.cells.Pair.{Pair}

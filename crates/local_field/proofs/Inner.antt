@@ -1,11 +1,11 @@
 -- The lower of a pair inside a cell is a facet of the upper that keeps the top, and both are towers.
-use Rattle.std.proofs.Common.{◌≡◌, ◌≢◌, ◌⊎◌, inl, inr, ℕ, zero, suc, ◌<◌, ◌≤◌, Bool, true, List, [], ◌∷◌, ◌++◌, length, map, refl, ap, sym, ◌∙◌, subst, arith}
+use Rattle.std.proofs.Common.{◌≡◌, inl, inr, ℕ, zero, suc, Bool, true, List, [], ◌∷◌, ◌++◌, refl, sym, subst}
 use Rattle.std.specs.List.{AllByRecursion}
 use Rattle.number_lists.specs.Members.{In, here, there}
 use Rattle.number_lists.proofs.CallerLemmas.{In-cases, In-map, map-In}
-use Rattle.local_field.specs.Towers.{TowerPair, facets, inner, Building, under, pair_of, build, first_pair, local, top_of, rest_of}
-use Rattle.local_field.specs.Inside.{FitsIn, IsBuilding, IsFull, IsTower, IsFlagged, FitsUnder}
-use Rattle.local_field.proofs.InsideCells.{all_append, all_map, all_to, in_own}
+use Rattle.local_field.specs.Towers.{TowerPair, facets, inner, Building, pair_of, build, local, top_of, rest_of}
+use Rattle.local_field.specs.Inside.{FitsIn, IsBuilding, IsFull, IsTower, IsFlagged}
+use Rattle.local_field.proofs.InsideCells.{all_append, all_map, all_to}
 
 -- ---- the lower is a facet
 

@@ -11,3 +11,11 @@ mod Flagged
 mod Inner
 mod ChainTowers
 mod AllCells
+mod Putting
+mod StepParts
+mod Choices
+mod Roots
+mod TowerParts
+mod Solids
+mod FlagSteps
+mod Layers

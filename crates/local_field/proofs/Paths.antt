@@ -1,9 +1,9 @@
 -- Steps round a 2-cell: paths of steps, and a round cut at one of its edges.
-use Rattle.std.proofs.Common.{◌≡◌, ◌≢◌, ◌⊎◌, inl, inr, ℕ, suc, ◌≤◌, List, [], ◌∷◌, ◌++◌, Bool, true, false, cond, eqb, map, take, drop, length, get_or, refl, ap, sym, ◌∙◌, subst, arith}
-use Rattle.std.proofs.lemmas.Bool.{eqb-true, eq-eqb, ne_eqb, false≢true}
+use Rattle.std.proofs.Common.{◌≡◌, ◌≢◌, inl, inr, ℕ, List, [], ◌∷◌, ◌++◌, Bool, true, false, cond, eqb, map, take, drop, get_or, refl, ap, sym, ◌∙◌, subst}
+use Rattle.std.proofs.lemmas.Bool.{eqb-true, eq-eqb, false≢true}
 use Rattle.std.proofs.lemmas.List.{map-append}
 use Rattle.number_lists.specs.Members.{In, here, there}
-use Rattle.number_lists.proofs.CallerLemmas.{In-cases, In-map, map-In, In-left, In-right, append-In, AreDistinct, none, more}
+use Rattle.number_lists.proofs.CallerLemmas.{In-cases, In-left, In-right, append-In, AreDistinct, more}
 use Rattle.regular_check.specs.declared.cycles.Step.{Step}
 use Rattle.local_field.specs.Buildings.{steps_after, steps_before}
 

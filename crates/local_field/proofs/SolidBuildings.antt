@@ -4,7 +4,7 @@ use Rattle.std.specs.List.{AllByRecursion, list_all}
 use Rattle.std.proofs.lemmas.Bool.{and_parts, eqb-true, false≢true}
 use Rattle.std.proofs.lemmas.List.{reverse-append}
 use Rattle.number_lists.specs.Members.{In, here, there}
-use Rattle.number_lists.proofs.CallerLemmas.{In-cases, In-left, In-right, append-In, In-filter, filter-In, In-inside, Contains-In, In-Contains, any-some, all-In}
+use Rattle.number_lists.proofs.CallerLemmas.{In-cases, In-left, In-right, In-filter, filter-In, In-inside, Contains-In, In-Contains, any-some, all-In}
 use Rattle.face_poset.specs.declared.cells.Cell.{Cell}
 use Rattle.face_poset.specs.declared.cells.Pair.{Pair}
 use Rattle.face_poset.specs.Poset.{IsSpace, count, facets_of}
@@ -14,7 +14,7 @@ use Rattle.order_complex.specs.Chains.{id_of}
 use Rattle.sphere_collapses.specs.Collapses.{same, lower_of, upper_of, is_free, without, is_point, collapses, boundary_less}
 use Rattle.sphere_collapses.proofs.CallerLemmas.{IsFree, is-free, without-inside, without-not, In-without, same-cell, cell-same}
 use Rattle.local_field.specs.Towers.{Pairwise}
-use Rattle.local_field.specs.Inside.{cells_of, IsAmong, FitsIn, NotAbove, IsBuilding}
+use Rattle.local_field.specs.Inside.{IsAmong, FitsIn, NotAbove, IsBuilding}
 use Rattle.local_field.specs.Buildings.{dim_at, is_below, left_over, solid_building}
 use Rattle.local_field.proofs.FlagLaw.{dim-id, facet-range}
 use Rattle.local_field.proofs.Cells.{IsFaceAt, below-or, below-range, below-parts, below-from, below-at, id-same, point-id, point-dim, falls}
@@ -203,6 +203,17 @@ module _ (space : List (List (List ℕ))) (valid : IsSpace space) where
       (built-more g rest p (backward pairs) (root_of (without rest p) pairs) lower free under
       (built-along g pairs (without rest p) (lower_stays rest p lower free) (λ c i. under c (without-inside space rest p i)) t.1))
 
+  -- the cells of the pairs are there
+  pairs-there : (pairs : List Pair) (rest : List Cell) → IsLower rest → collapses space rest pairs ≡ true → (p : Pair) → In p pairs → IsThere (lower_of p) × IsThere (upper_of p)
+  pairs-there [] rest lower e p i = elim i [ ]
+  pairs-there (q ∷ pairs) rest lower e p i =
+      let t = and_parts (is_free space rest q) (collapses space (without rest q) pairs) e in
+      let free : IsFree space rest q = is-free space rest q t.0 in
+      elim (In-cases i) [
+        | inl s ↦ subst (λ (z : Pair). IsThere (lower_of z) × IsThere (upper_of z)) (sym s) (lower.there (lower_of q) free.lower, lower.there (upper_of q) free.upper)
+        | inr j ↦ pairs-there pairs (without rest q) (lower_stays rest q lower free) t.1 p j
+      ]
+
   -- ---- the boundary of a 3-cell without one 2-cell
 
   module _ (n m : ℕ) (low : 1 ≤ n) (high : n ≤ count space 3) (disk_in : In m (facets_of space 3 n)) where
@@ -246,6 +257,9 @@ module _ (space : List (List (List ℕ))) (valid : IsSpace space) where
           there = λ c i. (let r = rest-below c i in let w = below-range space valid low high r.0 in record { small = omega (arith, r.1); low = w.0; high = w.1 });
           facets = λ d k h i j. (let r = rest-below (cell_at (suc d) k) i in below-rest (cell_at d h) (facet d k h r.0 (In-Contains j)) (omega (arith, r.1)) (λ e. let s : d ≡ 2 = ap (λ (x : Cell). x.dim) e in omega (arith, s, r.1)));
         }
+
+    pub solid-there : (pairs : List Pair) → collapses space rest pairs ≡ true → (p : Pair) → In p pairs → IsThere (lower_of p) × IsThere (upper_of p)
+    solid-there pairs e p i = pairs-there pairs rest rest-lower e p i
 
     rest-under : (c : Cell) → In c rest → is_below space (id_of space c) g ≡ true
     rest-under c i = let r = rest-below c i in below-from space valid 2 n c.dim c.number (omega arith) low high (omega (arith, r.1)) r.0

@@ -1,9 +1,11 @@
 -- What the contracts mean: Towers, Inside, Buildings and Numbered.
+-- What the code keeps for itself: Listed.
 -- Words of lower crates that these speak of stand at the end.
 pub mod Towers
 pub mod Inside
 pub mod Buildings
 pub mod Numbered
+pub mod Listed
 pub use Rattle.order_complex.specs.Chains
 pub use Rattle.order_complex.specs.Complex
 pub use Rattle.vector_field.specs.Pairs

@@ -1,8 +1,14 @@
 //! Pairs of chains inside each cell of a regular space, which leave over one chain for each cell.
 #![tactic(auto)]
 
+mod building;
+mod cell_ids;
+mod field;
+mod inside;
 mod laws;
+mod rounds;
 
+pub use field::local_field;
 pub use laws::{
     cells_leave_over, flags_are_full, local_leaves_over, local_pairs_are_fields, spaces_are_flagged,
 };

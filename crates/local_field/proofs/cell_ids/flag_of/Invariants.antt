@@ -1,0 +1,11 @@
+use Rattle.std.proofs.Common.{◌≡◌, ◌≤◌, ◌-◌, ◌++◌}
+use Rattle.face_poset.specs.Poset.{count}
+use Rattle.local_field.specs.Buildings.{flag_of}
+use Rattle.local_field.proofs.cell_ids.flag_of.Given as goal
+
+abbrev pub invariant-loop-step : goal.invariant-loop-step
+invariant-loop-step l = record {
+  first : 1 ≤ l.cell;
+  last : l.cell ≤ count l.space (l.dim - l.step);
+  is : l.flag.items ++ flag_of l.space (l.dim - l.step) l.cell ≡ flag_of l.space l.dim l.number;
+}
