@@ -2,6 +2,7 @@ mod CellLemmas
 mod CutLemmas
 mod Digits
 mod KindLemmas
+mod LineLemmas
 mod PlacedSaid
 mod PlacedWords
 mod ShapeLemmas
@@ -9,5 +10,6 @@ mod SpotLemmas
 mod SpotTexts
 mod TableLemmas
 mod TableRows
+mod TakenLemmas
 mod WordLemmas
 pub mod CallerLemmas

@@ -14,15 +14,16 @@ use Rattle.cert_lines.specs.declared.kind.LineKind.TheVariants as line_kind
 use Rattle.cert_lines.specs.Kinds.{kind_of}
 use Rattle.cert_lines.specs.Listed.{numbers_in}
 use Rattle.cert_lines.proofs.CallerLemmas.{numbers-told}
-use Rattle.cert_text.specs.declared.fault.CertFault.{CertFault}
-use Rattle.cert_text.specs.declared.fault.CertFault.TheVariants.{Ends, Memory}
-use Rattle.cert_text.specs.Readers.{Left, Answer, and_then, take_line}
+use Rattle.cert_lines.specs.declared.fault.CertFault.{CertFault}
+use Rattle.cert_lines.specs.declared.fault.CertFault.TheVariants.{Ends, Memory}
+use Rattle.cert_lines.specs.Readers.{Left, Answer, and_then, take_line}
 use Rattle.cert_text.specs.Picks.{pick_end, pick_pairs_or_end}
-use Rattle.cert_text.specs.Reading.{read_version, read_body, read_space, read_cover, read_covers, covered, nothing_left, start, certificate_of}
-use Rattle.cert_text.specs.Taking.{IsTaken, IsRefused}
+use Rattle.cert_lines.specs.Readers.{start}
+use Rattle.cert_text.specs.Reading.{read_version, read_body, read_space, read_cover, read_covers, covered, nothing_left, certificate_of}
+use Rattle.cert_lines.specs.Taken.{IsTaken, IsRefused}
 use Rattle.cert_text.proofs.SpaceReaders.{space-read}
 use Rattle.cert_text.proofs.WellSpaces.{space-well}
-use Rattle.cert_text.proofs.TakingLemmas.{taken-is, refused-is}
+use Rattle.cert_lines.proofs.CallerLemmas.{taken-is, refused-is}
 
 abbrev is_end : LineKind → Bool
 is_end (line_kind.Plain kind.End) = true

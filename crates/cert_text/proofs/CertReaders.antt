@@ -14,7 +14,7 @@ use Rattle.certificates.specs.Forms.{plain, placed}
 use Rattle.certificates.specs.Cert.{CoverSection, CertCover, Cert}
 use Rattle.certificates.specs.Texts.{Stated, four, pair_line, component_lines, sheets_number, first_number, face_lines, rank_lines, class_lines, product_line}
 use Rattle.certificates.specs.WellFormed.{pair_fits, component_of}
-use Rattle.cert_text.specs.Readers.{Left, and_then, take_line, many}
+use Rattle.cert_lines.specs.Readers.{Left, and_then, take_line, many}
 use Rattle.cert_text.specs.Picks.{pick_covers, pick_end, pick_pairs_or_end}
 use Rattle.cert_text.specs.Reading.{read_pair, read_critical, read_columns, read_sheets, Frame, frame, Listed, first_section, read_section, read_listed, read_listing, cover_at, read_cover, covered, read_covers, read_modulus, read_space, read_chains, read_ranks, read_classes, read_products, read_body}
 use Rattle.cert_text.proofs.Passing.{Passed, nothing-passed}

@@ -11,12 +11,13 @@ use Rattle.certificates.specs.Plain as p
 use Rattle.certificates.specs.Plain.{parts}
 use Rattle.certificates.specs.Forms.{Form, plain, placed}
 use Rattle.certificates.specs.WellFormed.{paired}
-use Rattle.cert_text.specs.declared.fault.CertFault.{CertFault}
-use Rattle.cert_text.specs.declared.fault.CertFault.TheVariants.{OutOfRange}
-use Rattle.cert_text.specs.Readers.{Left, Answer, and_then, take_line}
+use Rattle.cert_lines.specs.declared.fault.CertFault.{CertFault}
+use Rattle.cert_lines.specs.declared.fault.CertFault.TheVariants.{OutOfRange}
+use Rattle.cert_lines.specs.Readers.{Left, Answer, and_then, take_line}
 use Rattle.cert_text.specs.Picks.{pick_critical, pick_components, pick_columns}
 use Rattle.cert_text.specs.Reading.{all_critical, read_critical, columns_from, read_columns}
-use Rattle.cert_text.specs.Taking.{numbers_if, same_kind, four_of, any, onto, column_at}
+use Rattle.cert_lines.specs.Taken.{numbers_if, same_kind, four_of, any}
+use Rattle.cert_text.specs.Taking.{onto, column_at}
 use Rattle.cert_text.proofs.Equivalents.{same_Ok, take-is}
 use Rattle.cert_text.proofs.Loops.{onto-cons, onto-over}
 use Rattle.cert_text.proofs.SpaceReaders.{four-is}

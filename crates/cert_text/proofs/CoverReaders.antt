@@ -12,7 +12,7 @@ use Rattle.certificates.specs.Placed.{SearchSpot}
 use Rattle.certificates.specs.Forms.{Form, plain, placed}
 use Rattle.certificates.specs.Texts.{Stated, four, pair_line, column_lines, component_lines}
 use Rattle.certificates.specs.WellFormed.{are_numbered, pair_fits}
-use Rattle.cert_text.specs.Readers.{Left, and_then, take_line}
+use Rattle.cert_lines.specs.Readers.{Left, and_then, take_line}
 use Rattle.cert_text.specs.Picks.{pick_pair_line, pick_critical, pick_components, pick_columns, pick_sheets}
 use Rattle.cert_text.specs.Reading.{pair_stands, pair_at, read_pair, all_critical, read_critical, columns_from, read_columns, sheets_fit, numbered_if, read_sheets}
 use Rattle.cert_text.proofs.Passing.{Passed, and-parts, and-both, nothing-passed, passed-append, between, passed-first, passed-second}

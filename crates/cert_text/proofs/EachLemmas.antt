@@ -2,8 +2,8 @@
 use Rattle.std.proofs.Common.{◌≡◌, ◌<◌, ◌+◌, ◌-◌, ◌++◌, ◌∷◌, [], ℕ, suc, List, map, sym, ◌∙◌, ap, arith, Ok, Err}
 use Rattle.std.specs.List.{flat_map, range_with_len}
 use Rattle.std.proofs.lemmas.List.{append-nil}
-use Rattle.cert_text.specs.declared.fault.CertFault.{CertFault}
-use Rattle.cert_text.specs.Readers.{Left, Answer, and_then, each}
+use Rattle.cert_lines.specs.declared.fault.CertFault.{CertFault}
+use Rattle.cert_lines.specs.Readers.{Left, Answer, and_then, each}
 use Rattle.cert_text.specs.Taking.{onto}
 use Rattle.cert_text.proofs.Equivalents.{same_Ok}
 use Rattle.cert_text.proofs.Loops.{onto-cons, onto-over}

@@ -25,16 +25,16 @@ use Rattle.cert_lines.specs.Listed.{numbers_in}
 use Rattle.cert_lines.specs.Tables.{spot_in, table_in, rows_fit, if_rows, content, content_of}
 use Rattle.certificates.specs.WellFormed.{is_between, columns_of}
 use Rattle.cert_lines.proofs.CallerLemmas.{numbers-told, cover-said, spent-said}
-use Rattle.cert_text.specs.declared.fault.CertFault.{CertFault}
-use Rattle.cert_text.specs.declared.fault.CertFault.TheVariants.{BadLine, OutOfRange, Ends}
-use Rattle.cert_text.specs.Readers.{Left, Answer, and_then, formed, next_form}
+use Rattle.cert_lines.specs.declared.fault.CertFault.{CertFault}
+use Rattle.cert_lines.specs.declared.fault.CertFault.TheVariants.{BadLine, OutOfRange, Ends}
+use Rattle.cert_lines.specs.Readers.{Left, Answer, and_then, formed, next_form}
 use Rattle.cert_text.specs.Picks as k
 use Rattle.cert_text.specs.Picks.{a_table, a_section, an_ending, pick_listing}
 use Rattle.cert_text.specs.Reading.{Frame, Listed, listing_fits, component_after, is_ending, ended, put_listing, in_listing, formed_listing, listing_from, read_listed}
 use Rattle.cert_text.specs.Steps.{Step, one_table, one_section, one_ending, added, said, said_table, said_spent, picked, listing_step, grown, step_of}
-use Rattle.cert_text.specs.Taking.{Reads, Says, IsTaken}
+use Rattle.cert_lines.specs.Taken.{Reads, Says, IsTaken}
 use Rattle.cert_text.proofs.Equivalents.{both_ok, then_ok, same_Ok, next-is}
-use Rattle.cert_text.proofs.TakingLemmas.{plain-of}
+use Rattle.cert_lines.proofs.CallerLemmas.{plain-of}
 
 -- ---- the listing by what a line adds
 

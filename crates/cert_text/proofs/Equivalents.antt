@@ -5,9 +5,9 @@ use Rattle.certificates.specs.Forms.{Form, line_text, IsForm, form_of}
 use Rattle.certificates.specs.Texts.{Stated}
 use Rattle.certificates.specs.WellFormed.{are_numbered}
 use Rattle.certificates.proofs.CallerLemmas.{form-is, form-back}
-use Rattle.cert_text.specs.declared.fault.CertFault.{CertFault}
-use Rattle.cert_text.specs.declared.fault.CertFault.TheVariants.{BadLine, Ends}
-use Rattle.cert_text.specs.Readers.{Left, Answer, and_then, form_at, formed, next_form, in_range, chosen, take_line, many, each}
+use Rattle.cert_lines.specs.declared.fault.CertFault.{CertFault}
+use Rattle.cert_lines.specs.declared.fault.CertFault.TheVariants.{BadLine, Ends}
+use Rattle.cert_lines.specs.Readers.{Left, Answer, and_then, form_at, formed, next_form, in_range, chosen, take_line, many, each}
 use Rattle.cert_text.proofs.Passing.{Passed, nothing-passed, passed-append, between, passed-first, passed-second}
 
 -- what the reader answers is printed as the lines that it passed, and has the property; and it answers whatever has the

@@ -3,7 +3,7 @@ use Rattle.std.proofs.Common.{◌≡◌, ◌∷◌, ◌++◌, [], ℕ, List, Non
 use Rattle.std.specs.Fmt.{digits}
 use Rattle.certificates.specs.Cert.{Cert, CertCover, CoverTable}
 use Rattle.certificates.specs.Texts.{cert_text}
-use Rattle.cert_text.specs.declared.fault.CertFault.TheVariants.{BadLine, WrongOrder, OutOfRange, Ends, BadVersion}
+use Rattle.cert_lines.specs.declared.fault.CertFault.TheVariants.{BadLine, WrongOrder, OutOfRange, Ends, BadVersion}
 use Rattle.cert_text.specs.Reading.{certificate_of}
 
 abbrev table : (number : ℕ) → CoverTable

@@ -8,10 +8,11 @@ use Rattle.std.proofs.lemmas.List.Splits.{slice_split_at, length-slice_split}
 use Rattle.std.proofs.lemmas.List.Elements.{All-nil, All-cons, All-head, All-tail, All-take}
 use Rattle.certificates.specs.Forms.{Form}
 use Rattle.certificates.specs.Cert.{Cert}
-use Rattle.cert_text.specs.declared.fault.CertFault.{CertFault}
-use Rattle.cert_text.specs.declared.fault.CertFault.TheVariants.{WrongOrder, Ends}
-use Rattle.cert_text.specs.Readers.{Left, Answer, pieces_of, and_then, next_form}
-use Rattle.cert_text.specs.Reading.{read_body, over, nothing_left, start, certificate_of}
+use Rattle.cert_lines.specs.declared.fault.CertFault.{CertFault}
+use Rattle.cert_lines.specs.declared.fault.CertFault.TheVariants.{WrongOrder, Ends}
+use Rattle.cert_lines.specs.Readers.{Left, Answer, pieces_of, and_then, next_form}
+use Rattle.cert_lines.specs.Readers.{start}
+use Rattle.cert_text.specs.Reading.{read_body, over, nothing_left, certificate_of}
 use Rattle.cert_text.specs.Laws.{TextsAreRead, line_of, lines_to, FaultsAreFinal}
 use Rattle.cert_text.proofs.Equivalents.{then_ok}
 use Rattle.cert_text.proofs.TakingLemmas.{then_err}

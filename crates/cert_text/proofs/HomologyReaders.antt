@@ -12,7 +12,7 @@ use Rattle.certificates.specs.Forms.{Form, plain}
 use Rattle.certificates.specs.Degrees.{at}
 use Rattle.certificates.specs.Texts.{Stated, rank_line, rank_lines, class_line, class_lines, product_line}
 use Rattle.certificates.specs.WellFormed.{are_entries, sides_fit, product_order, product_place}
-use Rattle.cert_text.specs.Readers.{and_then, take_line, many, each}
+use Rattle.cert_lines.specs.Readers.{and_then, take_line, many, each}
 use Rattle.cert_text.specs.Picks.{pick_modulus, pick_rank, pick_rank_line, pick_classes, pick_class_line, pick_products, pick_product_line}
 use Rattle.cert_text.specs.Reading.{read_modulus, read_sides, read_block, chains_at, read_rank, read_ranks, read_class, read_classes, same_place, product_at, read_product, read_products}
 use Rattle.cert_text.proofs.Passing.{and-parts, and-both}

@@ -14,15 +14,15 @@ use Rattle.cert_lines.specs.declared.kind.LineKind.TheVariants as line_kind
 use Rattle.cert_lines.specs.Kinds.{kind_of}
 use Rattle.cert_lines.specs.Listed.{rise_from, if_rising, numbers_in, numbers_behind, words_behind}
 use Rattle.cert_lines.proofs.CallerLemmas.{numbers-told, numbers-rest}
-use Rattle.cert_text.specs.declared.fault.CertFault.{CertFault}
-use Rattle.cert_text.specs.declared.fault.CertFault.TheVariants.{OutOfRange}
-use Rattle.cert_text.specs.Readers.{Left, Answer, and_then, in_range, many}
+use Rattle.cert_lines.specs.declared.fault.CertFault.{CertFault}
+use Rattle.cert_lines.specs.declared.fault.CertFault.TheVariants.{OutOfRange}
+use Rattle.cert_lines.specs.Readers.{Left, Answer, and_then, in_range, many}
 use Rattle.cert_text.specs.Picks.{pick_face}
 use Rattle.cert_text.specs.Reading.{face_fits, read_face, read_faces}
-use Rattle.cert_text.specs.Taking.{IsTaken, IsRefused}
+use Rattle.cert_lines.specs.Taken.{IsTaken, IsRefused}
 use Rattle.cert_text.proofs.SpaceReaders.{some_facet, four-is}
 use Rattle.cert_text.proofs.WellSpaces.{cell-there}
-use Rattle.cert_text.proofs.TakingLemmas.{plain-of, taken-is, refused-is}
+use Rattle.cert_lines.proofs.CallerLemmas.{plain-of, taken-is, refused-is}
 
 -- ---- layers
 

@@ -9,7 +9,6 @@ mod Examples
 mod Final
 mod HomologyReaders
 mod LayerLemmas
-mod LineLemmas
 mod ListingReaders
 mod LocalReaders
 mod Locals

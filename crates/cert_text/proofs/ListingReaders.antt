@@ -12,9 +12,9 @@ use Rattle.certificates.specs.WellFormed.{is_between, columns_of, table_fits, ar
 use Rattle.certificates.proofs.CallerLemmas.{form-is, form-back}
 use Rattle.cert_lines.specs.Tables.{rows_fit}
 use Rattle.cert_lines.proofs.CallerLemmas.{rows-there, rows-back}
-use Rattle.cert_text.specs.declared.fault.CertFault.{CertFault}
-use Rattle.cert_text.specs.declared.fault.CertFault.TheVariants.{BadLine, OutOfRange, Ends}
-use Rattle.cert_text.specs.Readers.{Left, Answer, and_then}
+use Rattle.cert_lines.specs.declared.fault.CertFault.{CertFault}
+use Rattle.cert_lines.specs.declared.fault.CertFault.TheVariants.{BadLine, OutOfRange, Ends}
+use Rattle.cert_lines.specs.Readers.{Left, Answer, and_then}
 use Rattle.cert_text.specs.Picks.{Listing, a_table, a_section, an_ending, pick_listing}
 use Rattle.cert_text.specs.Reading.{Frame, Listed, listing_fits, component_after, is_ending, ended, table_at, put_listing, in_listing, formed_listing, listing_from, read_listed}
 use Rattle.cert_text.proofs.Passing.{Passed, and-parts, and-both, passed-append, between, passed-first, passed-second}

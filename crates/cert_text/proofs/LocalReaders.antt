@@ -9,9 +9,9 @@ use Rattle.certificates.specs.Parts.{Sparse}
 use Rattle.certificates.specs.Plain as p
 use Rattle.certificates.specs.Placed.{SearchSpot}
 use Rattle.certificates.specs.Forms.{Form, plain, form_of}
-use Rattle.cert_text.specs.declared.fault.CertFault.{CertFault}
-use Rattle.cert_text.specs.declared.fault.CertFault.TheVariants.{BadLine, WrongOrder, OutOfRange, Ends, BadVersion}
-use Rattle.cert_text.specs.Readers.{Left, Answer, and_then, formed, next_form, in_range, chosen, take_line, many}
+use Rattle.cert_lines.specs.declared.fault.CertFault.{CertFault}
+use Rattle.cert_lines.specs.declared.fault.CertFault.TheVariants.{BadLine, WrongOrder, OutOfRange, Ends, BadVersion}
+use Rattle.cert_lines.specs.Readers.{Left, Answer, and_then, formed, next_form, in_range, chosen, take_line, many}
 use Rattle.cert_text.specs.Picks as k
 use Rattle.cert_text.specs.Picks.{Listing, pick_listing}
 use Rattle.cert_text.specs.Reading as r

@@ -2,13 +2,13 @@
 use Rattle.std.proofs.Common.{◌≡◌, ◌≤◌, ◌+◌, ◌++◌, ◌∷◌, [], ◌⊎◌, inl, inr, ℕ, zero, suc, Bool, true, false, cond, eqb, Option, Some, None, List, length, refl, sym, ◌∙◌, ap, arith, subst, Result, Ok, Err}
 use Rattle.std.proofs.lemmas.Option.{same_Some}
 use Rattle.certificates.specs.Forms.{Form, form_of}
-use Rattle.cert_text.specs.declared.fault.CertFault.{CertFault}
-use Rattle.cert_text.specs.declared.fault.CertFault.TheVariants.{BadLine, WrongOrder, OutOfRange, Ends}
-use Rattle.cert_text.specs.Readers.{Left, Answer, and_then, form_at, formed, next_form, in_range, chosen, take_line, many, each}
+use Rattle.cert_lines.specs.declared.fault.CertFault.{CertFault}
+use Rattle.cert_lines.specs.declared.fault.CertFault.TheVariants.{BadLine, WrongOrder, OutOfRange, Ends}
+use Rattle.cert_lines.specs.Readers.{Left, Answer, and_then, form_at, formed, next_form, in_range, chosen, take_line, many, each}
 use Rattle.cert_text.specs.Laws.{line_of}
-use Rattle.cert_text.specs.Taking.{formed_to}
+use Rattle.cert_lines.specs.Taken.{formed_to}
 use Rattle.cert_text.proofs.Equivalents.{both_ok, then_ok, same_Ok}
-use Rattle.cert_text.proofs.LineLemmas.{two_pieces}
+use Rattle.cert_lines.proofs.CallerLemmas.{two_pieces}
 use Rattle.cert_text.proofs.TakingLemmas.{then_err}
 
 -- the same lines up to line n, and more behind them

@@ -1,8 +1,8 @@
 -- Loops over lines: what was read stands before what is left to read.
 use Rattle.std.proofs.Common.{◌≡◌, ◌≤◌, ◌+◌, ◌-◌, ◌++◌, ◌∷◌, [], ℕ, zero, suc, List, length, refl, sym, ◌∙◌, ap, arith, Ok, Err}
 use Rattle.std.proofs.lemmas.List.{append-nil, append_assoc}
-use Rattle.cert_text.specs.declared.fault.CertFault.{CertFault}
-use Rattle.cert_text.specs.Readers.{Left, Answer, and_then, many}
+use Rattle.cert_lines.specs.declared.fault.CertFault.{CertFault}
+use Rattle.cert_lines.specs.Readers.{Left, Answer, and_then, many}
 use Rattle.cert_text.specs.Taking.{onto}
 
 pub onto-nil : {A : Type 0} (a : Answer (List A)) → a ≡ onto [] a

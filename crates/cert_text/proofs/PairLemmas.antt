@@ -10,12 +10,13 @@ use Rattle.certificates.specs.declared.lines.PairLine.{PairLine}
 use Rattle.certificates.specs.Plain as p
 use Rattle.certificates.specs.Forms.{plain}
 use Rattle.certificates.specs.WellFormed.{is_between}
-use Rattle.cert_text.specs.declared.fault.CertFault.{CertFault}
-use Rattle.cert_text.specs.declared.fault.CertFault.TheVariants.{OutOfRange}
-use Rattle.cert_text.specs.Readers.{Left, Answer, and_then, take_line}
+use Rattle.cert_lines.specs.declared.fault.CertFault.{CertFault}
+use Rattle.cert_lines.specs.declared.fault.CertFault.TheVariants.{OutOfRange}
+use Rattle.cert_lines.specs.Readers.{Left, Answer, and_then, take_line}
 use Rattle.cert_text.specs.Picks.{pick_pair_line}
 use Rattle.cert_text.specs.Reading.{pair_stands, pair_at, read_pair}
-use Rattle.cert_text.specs.Taking.{numbers_if, triple_of, any}
+use Rattle.cert_lines.specs.Taken.{numbers_if, any}
+use Rattle.cert_text.specs.Taking.{triple_of}
 use Rattle.cert_text.proofs.TakingLemmas.{IsPick, fits-line, unfit-line, fails-line}
 
 abbrev triple : List ℕ → ℕ × ℕ × ℕ

@@ -5,7 +5,7 @@ use Rattle.std.proofs.lemmas.List.{map-append, length-append}
 use Rattle.certificates.specs.Forms.{line_text, IsForm}
 use Rattle.certificates.specs.Texts.{Stated}
 use Rattle.certificates.specs.WellFormed.{are_numbered}
-use Rattle.cert_text.specs.Readers.{Left}
+use Rattle.cert_lines.specs.Readers.{Left}
 
 abbrev pub stated_text : Stated → List ℕ
 stated_text s = line_text s.1

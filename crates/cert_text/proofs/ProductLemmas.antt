@@ -19,16 +19,18 @@ use Rattle.certificates.specs.WellFormed.{are_entries, places, product_order}
 use Rattle.cert_lines.specs.declared.kind.LineKind.TheVariants as line_kind
 use Rattle.cert_lines.specs.Listed.{numbers_in, list_in, list_behind, if_entries}
 use Rattle.cert_lines.proofs.CallerLemmas.{numbers-told, lists-told}
-use Rattle.cert_text.specs.declared.fault.CertFault.{CertFault}
-use Rattle.cert_text.specs.declared.fault.CertFault.TheVariants.{OutOfRange}
-use Rattle.cert_text.specs.Readers.{Left, Answer, and_then, in_range, each, take_line}
+use Rattle.cert_lines.specs.declared.fault.CertFault.{CertFault}
+use Rattle.cert_lines.specs.declared.fault.CertFault.TheVariants.{OutOfRange}
+use Rattle.cert_lines.specs.Readers.{Left, Answer, and_then, in_range, each, take_line}
 use Rattle.cert_text.specs.Picks.{pick_products, pick_product_line}
 use Rattle.cert_text.specs.Reading.{same_place, product_at, read_product, read_products}
-use Rattle.cert_text.specs.Taking.{IsTaken, IsRefused, quadruple, numbers_if, any, onto}
+use Rattle.cert_lines.specs.Taken.{IsTaken, IsRefused, numbers_if, any}
+use Rattle.cert_text.specs.Taking.{quadruple, onto}
 use Rattle.cert_text.proofs.EachLemmas.{each-after, each-stops}
 use Rattle.cert_text.proofs.Loops.{onto-nil}
 use Rattle.cert_text.proofs.SideLemmas.{entries-none, entries-some}
-use Rattle.cert_text.proofs.TakingLemmas.{IsPick, plain-of, taken-is, refused-is, if_kind, no-kind, fits-line, unfit-line, fails-line}
+use Rattle.cert_lines.proofs.CallerLemmas.{plain-of, taken-is, refused-is, if_kind, no-kind}
+use Rattle.cert_text.proofs.TakingLemmas.{IsPick, fits-line, unfit-line, fails-line}
 
 -- ---- how many
 

@@ -16,13 +16,14 @@ use Rattle.certificates.specs.WellFormed.{are_entries}
 use Rattle.cert_lines.specs.declared.kind.LineKind.TheVariants as line_kind
 use Rattle.cert_lines.specs.Listed.{list_in, list_behind, if_entries}
 use Rattle.cert_lines.proofs.CallerLemmas.{lists-told}
-use Rattle.cert_text.specs.declared.fault.CertFault.{CertFault}
-use Rattle.cert_text.specs.declared.fault.CertFault.TheVariants.{OutOfRange}
-use Rattle.cert_text.specs.Readers.{Left, Answer, and_then, in_range}
+use Rattle.cert_lines.specs.declared.fault.CertFault.{CertFault}
+use Rattle.cert_lines.specs.declared.fault.CertFault.TheVariants.{OutOfRange}
+use Rattle.cert_lines.specs.Readers.{Left, Answer, and_then, in_range}
 use Rattle.cert_text.specs.Picks.{pick_rank, pick_rank_line, pick_classes, pick_class_line}
 use Rattle.cert_text.specs.Reading.{chains_at, read_sides, read_block, read_rank, read_class}
-use Rattle.cert_text.specs.Taking.{IsTaken, IsRefused, pair_if, lists_if, has_lists}
-use Rattle.cert_text.proofs.TakingLemmas.{if_kind, plain-of, of-kind, no-kind, taken-is, refused-is}
+use Rattle.cert_lines.specs.Taken.{IsTaken, IsRefused}
+use Rattle.cert_text.specs.Taking.{pair_if, lists_if, has_lists}
+use Rattle.cert_lines.proofs.CallerLemmas.{if_kind, plain-of, of-kind, no-kind, taken-is, refused-is}
 
 -- ---- the lists of a line
 

@@ -13,7 +13,7 @@ use Rattle.certificates.specs.Plain as p
 use Rattle.certificates.specs.Forms.{Form, plain, IsForm}
 use Rattle.certificates.specs.Texts.{four, face_lines}
 use Rattle.cert_lines.specs.Listed.{rise_from}
-use Rattle.cert_text.specs.Readers.{Left, Answer, and_then, take_line, many}
+use Rattle.cert_lines.specs.Readers.{Left, Answer, and_then, take_line, many}
 use Rattle.cert_text.specs.Picks.{pick_cells, pick_face, pick_chains}
 use Rattle.cert_text.specs.Reading.{face_fits, read_face, cells_fit, read_faces, read_space, chains_fit, read_chains}
 use Rattle.cert_text.proofs.Passing.{and-parts, and-both}

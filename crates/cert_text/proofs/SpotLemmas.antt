@@ -16,13 +16,14 @@ use Rattle.cert_lines.specs.Kinds.{kind_of}
 use Rattle.cert_lines.specs.Listed.{numbers_in}
 use Rattle.cert_lines.specs.Tables.{spot_in}
 use Rattle.cert_lines.proofs.CallerLemmas.{sheets-said}
-use Rattle.cert_text.specs.declared.fault.CertFault.{CertFault}
-use Rattle.cert_text.specs.declared.fault.CertFault.TheVariants.{OutOfRange}
-use Rattle.cert_text.specs.Readers.{Left, Answer, and_then, in_range, take_line}
+use Rattle.cert_lines.specs.declared.fault.CertFault.{CertFault}
+use Rattle.cert_lines.specs.declared.fault.CertFault.TheVariants.{OutOfRange}
+use Rattle.cert_lines.specs.Readers.{Left, Answer, and_then, in_range, take_line}
 use Rattle.cert_text.specs.Picks.{pick_sheets, pick_covers}
 use Rattle.cert_text.specs.Reading.{sheets_fit, numbered_if, read_sheets, read_section}
-use Rattle.cert_text.specs.Taking.{IsTaken, numbers_if, any}
-use Rattle.cert_text.proofs.TakingLemmas.{IsPick, taken-is, fits-line, unfit-line, fails-line}
+use Rattle.cert_lines.specs.Taken.{IsTaken, numbers_if, any}
+use Rattle.cert_lines.proofs.CallerLemmas.{taken-is}
+use Rattle.cert_text.proofs.TakingLemmas.{IsPick, fits-line, unfit-line, fails-line}
 
 -- ---- the line `sheets`
 

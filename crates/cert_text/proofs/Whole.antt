@@ -18,9 +18,10 @@ use Rattle.certificates.specs.Cert.{CoverSection, CertCover, Cert}
 use Rattle.certificates.specs.Texts.{Stated, four, line_bytes, lines_text, pair_line, cover_line, component_lines, sheets_number, section_lines, ending_line, cover_fronts, sections_in, endings, back_lines, front_lines, sections_lines, lines_of, cert_text, face_lines, rank_lines, class_lines, product_line}
 use Rattle.certificates.specs.WellFormed.{are_numbered, rank_fits, class_fits, product_fits, SectionsFollow, IsCoverPart, IsWellFormed}
 use Rattle.certificates.proofs.CallerLemmas.{Without, split-joined, feedless}
-use Rattle.cert_text.specs.declared.fault.CertFault.TheVariants.{BadLine, Ends, BadVersion}
-use Rattle.cert_text.specs.Readers.{Left, Answer, and_then, pieces_of, form_at, formed, next_form}
-use Rattle.cert_text.specs.Reading.{versioned, read_version, over, nothing_left, read_body, start, certificate_of}
+use Rattle.cert_lines.specs.declared.fault.CertFault.TheVariants.{BadLine, Ends, BadVersion}
+use Rattle.cert_lines.specs.Readers.{Left, Answer, and_then, pieces_of, form_at, formed, next_form}
+use Rattle.cert_lines.specs.Readers.{start}
+use Rattle.cert_text.specs.Reading.{versioned, read_version, over, nothing_left, read_body, certificate_of}
 use Rattle.cert_text.proofs.Passing.{Passed, AreForms, stated_text, passed-append, between, passed-first, passed-second}
 use Rattle.cert_text.proofs.Equivalents.{both_ok, then_ok, same_Ok, next-is, next-back}
 use Rattle.cert_text.proofs.Tests.{all-test, test-all}

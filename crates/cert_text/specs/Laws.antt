@@ -9,9 +9,9 @@
 --   lines_to n bytes   the first n lines, each with its line feed
 use Rattle.std.specs.Prelude.{◌≡◌, ◌≢◌, ℕ, ◌<◌, List, [], ◌∷◌, ◌++◌, take, length, Option, Some, None, Ok, Err}
 use Rattle.std.specs.List.{flat_map}
-use Rattle.cert_text.specs.declared.fault.CertFault.{CertFault}
-use Rattle.cert_text.specs.declared.fault.CertFault.TheVariants.{BadLine, WrongOrder, OutOfRange, BadVersion}
-use Rattle.cert_text.specs.Readers.{pieces_of}
+use Rattle.cert_lines.specs.declared.fault.CertFault.{CertFault}
+use Rattle.cert_lines.specs.declared.fault.CertFault.TheVariants.{BadLine, WrongOrder, OutOfRange, BadVersion}
+use Rattle.cert_lines.specs.Readers.{pieces_of}
 use Rattle.certificates.specs.Cert.{Cert}
 use Rattle.certificates.specs.Texts.{cert_text}
 use Rattle.certificates.specs.WellFormed.{IsWellFormed}

@@ -25,11 +25,11 @@ use Rattle.certificates.specs.Forms.{Form, plain, form_of}
 use Rattle.certificates.specs.Degrees.{at}
 use Rattle.certificates.specs.Cert.{CoverTable, CoverSection, CertCover, Cert}
 use Rattle.certificates.specs.WellFormed.{are_entries, is_between, product_order, paired, columns_of, spot_fits, component_of}
-use Rattle.cert_text.specs.declared.fault.CertFault.{CertFault}
-use Rattle.cert_text.specs.declared.fault.CertFault.TheVariants.{BadLine, WrongOrder, OutOfRange, Ends, BadVersion}
+use Rattle.cert_lines.specs.declared.fault.CertFault.{CertFault}
+use Rattle.cert_lines.specs.declared.fault.CertFault.TheVariants.{BadLine, WrongOrder, OutOfRange, Ends, BadVersion}
 use Rattle.cert_lines.specs.Listed.{rise_from}
 use Rattle.cert_lines.specs.Tables.{rows_fit}
-use Rattle.cert_text.specs.Readers.{Left, Answer, pieces_of, and_then, next_form, take_line, many, each}
+use Rattle.cert_lines.specs.Readers.{Left, Answer, and_then, next_form, take_line, many, each, start}
 use Rattle.cert_text.specs.Picks as k
 use Rattle.cert_text.specs.Picks.{Listing, a_table, a_section, an_ending, pick_listing}
 
@@ -296,9 +296,6 @@ read_body v left =
     and_then (read_products v modulus.0 chains.0 classes.0 classes.1) (λ products.
     and_then (read_covers v space.0 products.1) (λ cover.
     Ok (record { version = v; modulus = modulus.0; space = space.0; chains = chains.0; ranks = ranks.0; classes = classes.0; products = products.0; cover = cover.0 }, cover.1))))))))
-
-abbrev pub start : List ℕ → Left
-start bytes = record { number = 1; pieces = pieces_of bytes }
 
 abbrev pub certificate_of : List ℕ → Result Cert CertFault
 certificate_of bytes =

@@ -12,12 +12,12 @@ use Rattle.std.specs.Prelude.{ℕ, List, ◌∷◌, ◌++◌, map, Option, Some,
 use Rattle.certificates.specs.Placed.{SearchSpot, SheetRows}
 use Rattle.certificates.specs.Cert.{CoverTable, CoverSection, table_of, section_of, ended_at}
 use Rattle.certificates.specs.WellFormed.{columns_of}
-use Rattle.cert_text.specs.declared.fault.CertFault.{CertFault}
-use Rattle.cert_text.specs.declared.fault.CertFault.TheVariants.{WrongOrder, OutOfRange}
+use Rattle.cert_lines.specs.declared.fault.CertFault.{CertFault}
+use Rattle.cert_lines.specs.declared.fault.CertFault.TheVariants.{WrongOrder, OutOfRange}
 use Rattle.cert_text.specs.declared.listing.Entry.{Entry}
 use Rattle.cert_text.specs.declared.listing.Entry.TheVariants as entry
 use Rattle.cert_text.specs.declared.listing.Listing.{Listing}
-use Rattle.cert_text.specs.Readers.{Left, Answer, and_then, next_form}
+use Rattle.cert_lines.specs.Readers.{Left, Answer, and_then, next_form}
 use Rattle.cert_text.specs.Picks as k
 use Rattle.cert_text.specs.Picks.{a_table, a_section, an_ending, pick_listing}
 use Rattle.cert_text.specs.Reading.{Frame, Listed, listing_fits, table_at}

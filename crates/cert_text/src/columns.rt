@@ -2,11 +2,11 @@ ghost use Rattle.std.specs.Prelude.{◌≡◌, ◌==◌, ◌≤◌, ◌<◌, ◌
 ghost use Rattle.face_poset.specs.Poset.{count};
 ghost use Rattle.certificates.specs.WellFormed.{paired};
 ghost use Rattle.cert_text.specs.Reading as reading;
-ghost use Rattle.cert_text.specs.declared.fault.CertFault.TheVariants.{Memory};
-ghost use Rattle.cert_text.specs.Taking.{Reads, critical_of, column_at};
+ghost use Rattle.cert_lines.specs.declared.fault.CertFault.TheVariants.{Memory};
+ghost use Rattle.cert_lines.specs.Taken.{Reads};
+ghost use Rattle.cert_text.specs.Taking.{critical_of, column_at};
 
-use crate::fault::CertFault;
-use crate::lines::{Lines, take_numbers};
+use cert_lines::{CertFault, Lines, take_numbers};
 use certificates::{Kind, Numbers, PairLine, PairLines};
 use face_poset::{Graded, Space};
 use std::alloc::Global;

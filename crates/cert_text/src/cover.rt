@@ -2,15 +2,13 @@ ghost use Rattle.std.specs.Prelude.{◌≡◌, option_map};
 ghost use Rattle.face_poset.specs.Poset.{IsSpace};
 ghost use Rattle.certificates.specs.Cert.{cover_of};
 ghost use Rattle.cert_text.specs.Reading as reading;
-ghost use Rattle.cert_text.specs.Taking.{Reads};
+ghost use Rattle.cert_lines.specs.Taken.{Reads};
 
 use crate::columns::{read_columns, read_critical};
-use crate::fault::CertFault;
-use crate::lines::{Lines, number_or_zero, take, take_any};
 use crate::listing::read_listing;
 use crate::pairs::read_pairs;
 use crate::spots::read_sheets;
-use cert_lines::LineKind;
+use cert_lines::{CertFault, LineKind, Lines, number_or_zero, take, take_any};
 use certificates::{CoverPart, Kind};
 use face_poset::Space;
 use std::alloc::Global;

@@ -1,10 +1,9 @@
 ghost use Rattle.std.specs.Prelude.{◌≡◌, ◌==◌, ◌||◌};
 ghost use Rattle.small_field.specs.Modulus.{is_modulus};
 ghost use Rattle.cert_text.specs.Reading as reading;
-ghost use Rattle.cert_text.specs.Taking.{Reads};
+ghost use Rattle.cert_lines.specs.Taken.{Reads};
 
-use crate::fault::CertFault;
-use crate::lines::{Lines, take_numbers};
+use cert_lines::{CertFault, Lines, take_numbers};
 use certificates::Kind;
 
 /// The version, 1 or 2. The line is looked at with the forms of version 2.

@@ -1,12 +1,11 @@
 ghost use Rattle.std.specs.Prelude.{◌≡◌, ◌==◌, ◌≤◌, ◌<◌, ◌+◌, ◌&&◌, nat_le, ℕ, List, [], true, length, slice_set, slice_index_or, OnOk};
 ghost use Rattle.certificates.specs.Degrees.{at};
-ghost use Rattle.cert_text.specs.Readers.{many};
+ghost use Rattle.cert_lines.specs.Readers.{many};
 ghost use Rattle.cert_text.specs.Reading as reading;
-ghost use Rattle.cert_text.specs.Taking.{Reads, pair_if, lists_if, has_lists};
+ghost use Rattle.cert_lines.specs.Taken.{Reads};
+ghost use Rattle.cert_text.specs.Taking.{pair_if, lists_if, has_lists};
 
-use crate::fault::CertFault;
-use crate::lines::{Lines, take, take_numbers};
-use cert_lines::{LineKind, entries_at, entries_behind_bar};
+use cert_lines::{CertFault, LineKind, Lines, entries_at, entries_behind_bar, take, take_numbers};
 use certificates::{Kind, Line, LinesByDegree};
 use std::alloc::Global;
 

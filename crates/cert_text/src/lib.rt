@@ -7,11 +7,9 @@
 
 mod columns;
 mod cover;
-mod fault;
 mod front;
 mod homology;
 mod laws;
-mod lines;
 mod listing;
 mod pairs;
 mod products;
@@ -19,11 +17,11 @@ mod space;
 mod spots;
 mod text;
 
+pub use cert_lines::CertFault;
 pub use certificates::{
     Certificate, CoverLine, CoverLines, CoverPart, Ending, Line, LinesByDegree, Numbers, PairLine,
     PairLines, ProductLine, ProductLines, Section, Sections, forms_are_spelled, write_back,
     write_cover, write_front, write_section,
 };
-pub use fault::CertFault;
 pub use laws::{faults_are_final, only_texts_are_read, texts_are_one, texts_are_read};
 pub use text::parse;

@@ -6,13 +6,14 @@ ghost use Rattle.cert_text.specs.Reading.{frame, numbered_if};
 ghost use Rattle.cert_lines.specs.Listed.{numbers_in};
 ghost use Rattle.cert_lines.specs.Tables.{spot_in, table_in};
 ghost use Rattle.cert_text.specs.Picks.{a_section, an_ending};
-ghost use Rattle.cert_text.specs.Taking.{Reads, Says};
+ghost use Rattle.cert_lines.specs.Taken.{Reads, Says};
 ghost use Rattle.cert_text.specs.Steps as steps;
 
-use crate::fault::CertFault;
-use crate::lines::{Lines, number_or_zero, take_any, take_numbers};
-use crate::spots::{Sheets, columns_at, spot_fits};
-use cert_lines::{LineKind, spot_at, table_at};
+use crate::spots::Sheets;
+use cert_lines::{
+    CertFault, LineKind, Lines, columns_at, number_or_zero, spot_at, spot_fits, table_at, take_any,
+    take_numbers,
+};
 use certificates::{CoverLine, CoverLines, Ending, Kind, Numbers, Section, Sections};
 use std::alloc::Global;
 use std::mem::replace;

@@ -1,12 +1,12 @@
 ghost use Rattle.std.specs.Prelude.{◌≡◌, ◌<◌, ◌+◌, ◌&&◌, ◌^◌, ℕ, option_map, if◌then◌else◌, Some, None, IsTrue};
 ghost use Rattle.face_poset.specs.Poset.{IsSpace};
 ghost use Rattle.certificates.specs.WellFormed.{is_between};
-ghost use Rattle.cert_text.specs.Readers.{many};
+ghost use Rattle.cert_lines.specs.Readers.{many};
 ghost use Rattle.cert_text.specs.Reading as reading;
-ghost use Rattle.cert_text.specs.Taking.{Reads, triple_of};
+ghost use Rattle.cert_lines.specs.Taken.{Reads};
+ghost use Rattle.cert_text.specs.Taking.{triple_of};
 
-use crate::fault::CertFault;
-use crate::lines::{Lines, take_numbers};
+use cert_lines::{CertFault, Lines, take_numbers};
 use certificates::{Kind, PairLine, PairLines};
 use face_poset::{Graded, Pair, Space};
 use std::alloc::Global;

@@ -1,15 +1,25 @@
 ghost use Rattle.std.specs.Prelude.{◌≡◌, ◌==◌, ◌≤◌, ◌+◌, length, map};
 ghost use Rattle.std.specs.List.{range_with_len};
 ghost use Rattle.certificates.specs.WellFormed.{product_order, places};
-ghost use Rattle.cert_text.specs.Readers.{each};
+ghost use Rattle.cert_lines.specs.Readers.{each};
 ghost use Rattle.cert_text.specs.Reading as reading;
-ghost use Rattle.cert_text.specs.Taking.{Reads, onto, place_of, quadruple};
+ghost use Rattle.cert_lines.specs.Taken.{Reads};
+ghost use Rattle.cert_text.specs.Taking.{onto, place_of, quadruple};
 
-use crate::fault::CertFault;
-use crate::lines::{Lines, first_numbers, take, take_numbers};
-use cert_lines::{LineKind, entries_at, entries_behind_bar};
+use cert_lines::{
+    CertFault, LineKind, Lines, entries_at, entries_behind_bar, first_numbers, take, take_numbers,
+};
 use certificates::{Kind, LinesByDegree, ProductLine, ProductLines};
 use std::alloc::Global;
+
+/// What the lines of products are read with.
+#[derive(Clone, Copy)]
+struct ProductFrame<'a> {
+    version: u8,
+    modulus: u8,
+    chains: [u32; 4],
+    classes: &'a LinesByDegree,
+}
 
 /// Which product: class `a` of degree `i` with class `b` of degree `j`, classes counted from 1.
 #[derive(Clone, Copy)]
@@ -39,7 +49,13 @@ pub fn read_products(
     if !is_count(stated, ones, twos) {
         return Err(CertFault::OutOfRange(number));
     }
-    read_all(alloc, lines, version, modulus, chains, classes, ones, twos)
+    let frame = ProductFrame {
+        version,
+        modulus,
+        chains,
+        classes,
+    };
+    read_all(alloc, lines, frame, ones, twos)
 }
 
 /// Whether there are so many products, where there are so many classes of degrees 1 and 2.
@@ -53,57 +69,19 @@ fn is_count(stated: u64, ones: u32, twos: u32) -> bool
 fn read_all(
     alloc: Global,
     lines: &mut Lines<'_>,
-    version: u8,
-    modulus: u8,
-    chains: [u32; 4],
-    classes: &LinesByDegree,
+    frame: ProductFrame<'_>,
     ones: u32,
     twos: u32,
 ) -> Result<ProductLines, CertFault>
     ensures { Reads (λ products. products)
-        (each (reading.read_product version modulus chains classes.now) (product_order ones twos) lines.old)
+        (each (reading.read_product frame.entry.version frame.entry.modulus frame.entry.chains frame.entry.classes.now)
+        (product_order ones twos) lines.old)
         lines.new result }
 {
     let mut products = ProductLines::new(alloc);
-    read_degrees(
-        alloc,
-        lines,
-        version,
-        modulus,
-        chains,
-        classes,
-        1,
-        ones,
-        1,
-        ones,
-        &mut products,
-    )?;
-    read_degrees(
-        alloc,
-        lines,
-        version,
-        modulus,
-        chains,
-        classes,
-        1,
-        ones,
-        2,
-        twos,
-        &mut products,
-    )?;
-    read_degrees(
-        alloc,
-        lines,
-        version,
-        modulus,
-        chains,
-        classes,
-        2,
-        twos,
-        1,
-        ones,
-        &mut products,
-    )?;
+    read_degrees(alloc, lines, frame, 1, ones, 1, ones, &mut products)?;
+    read_degrees(alloc, lines, frame, 1, ones, 2, twos, &mut products)?;
+    read_degrees(alloc, lines, frame, 2, twos, 1, ones, &mut products)?;
     Ok(products)
 }
 
@@ -111,10 +89,7 @@ fn read_all(
 fn read_degrees(
     alloc: Global,
     lines: &mut Lines<'_>,
-    version: u8,
-    modulus: u8,
-    chains: [u32; 4],
-    classes: &LinesByDegree,
+    frame: ProductFrame<'_>,
     i: u8,
     firsts: u32,
     j: u8,
@@ -125,24 +100,13 @@ fn read_degrees(
     requires high { i + j ≤ 3 }
     ensures { Reads (λ _. products.new)
         (onto products.old
-        (each (reading.read_product version modulus chains classes.now) (places i firsts j seconds) lines.old))
+        (each (reading.read_product frame.entry.version frame.entry.modulus frame.entry.chains frame.entry.classes.now)
+        (places i firsts j seconds) lines.old))
         lines.new result }
 {
     let mut done: u32 = 0;
     'firsts: while done < firsts {
-        read_row(
-            alloc,
-            lines,
-            version,
-            modulus,
-            chains,
-            classes,
-            i,
-            done + 1,
-            j,
-            seconds,
-            products,
-        )?;
+        read_row(alloc, lines, frame, i, done + 1, j, seconds, products)?;
         done += 1;
     }
     Ok(())
@@ -152,10 +116,7 @@ fn read_degrees(
 fn read_row(
     alloc: Global,
     lines: &mut Lines<'_>,
-    version: u8,
-    modulus: u8,
-    chains: [u32; 4],
-    classes: &LinesByDegree,
+    frame: ProductFrame<'_>,
     i: u8,
     a: u32,
     j: u8,
@@ -166,7 +127,7 @@ fn read_row(
     requires high { i + j ≤ 3 }
     ensures { Reads (λ _. products.new)
         (onto products.old
-        (each (reading.read_product version modulus chains classes.now)
+        (each (reading.read_product frame.entry.version frame.entry.modulus frame.entry.chains frame.entry.classes.now)
         (map (λ b. (i, a, j, b)) (range_with_len 1 seconds)) lines.old))
         lines.new result }
 {
@@ -178,7 +139,7 @@ fn read_row(
             j,
             b: done + 1,
         };
-        let product = read_product(alloc, lines, version, modulus, chains, classes, place)?;
+        let product = read_product(alloc, lines, frame, place)?;
         products.push(product)?;
         done += 1;
     }
@@ -189,29 +150,27 @@ fn read_row(
 fn read_product(
     alloc: Global,
     lines: &mut Lines<'_>,
-    version: u8,
-    modulus: u8,
-    chains: [u32; 4],
-    classes: &LinesByDegree,
+    frame: ProductFrame<'_>,
     place: Place,
 ) -> Result<ProductLine, CertFault>
     requires some { 1 ≤ place.i }
     requires high { place.i + place.j ≤ 3 }
     ensures { Reads (λ product. product)
-        (reading.read_product version modulus chains classes.now (place_of place) lines.old)
+        (reading.read_product frame.entry.version frame.entry.modulus frame.entry.chains frame.entry.classes.now (place_of place)
+        lines.old)
         lines.new result }
 {
     let number = lines.number();
-    let line = take(lines, version, LineKind::Plain(Kind::ProductLine))?;
+    let line = take(lines, frame.version, LineKind::Plain(Kind::ProductLine))?;
     if !is_at(first_numbers(line), place) {
         return Err(CertFault::OutOfRange(number));
     }
     let degree = place.i + place.j;
-    match entries_at(alloc, line, 4, modulus, classes.len(degree))? {
+    match entries_at(alloc, line, 4, frame.modulus, frame.classes.len(degree))? {
         None => Err(CertFault::OutOfRange(number)),
         Some(coefficients) => {
-            let most = chains[degree as usize - 1];
-            match entries_behind_bar(alloc, line, modulus, most)? {
+            let most = frame.chains[degree as usize - 1];
+            match entries_behind_bar(alloc, line, frame.modulus, most)? {
                 None => Err(CertFault::OutOfRange(number)),
                 Some(bound) => Ok(ProductLine {
                     number,

@@ -1,14 +1,12 @@
 ghost use Rattle.std.specs.Prelude.{◌≡◌, ◌≤◌, ◌<◌, ◌-◌, ◌∷◌, ◌++◌, [], ℕ, List, true, length, replicate, slice_set, slice_index_or, if◌then◌else◌, IfOk, IfErr, OnOk, Some, None};
 ghost use Rattle.std.specs.Str.{bytes_eq};
 ghost use Rattle.face_poset.specs.Poset.{layer, count, IsCell};
-ghost use Rattle.cert_text.specs.declared.fault.CertFault.TheVariants.{Memory};
-ghost use Rattle.cert_text.specs.Readers.{many};
+ghost use Rattle.cert_lines.specs.declared.fault.CertFault.TheVariants.{Memory};
+ghost use Rattle.cert_lines.specs.Readers.{many};
 ghost use Rattle.cert_text.specs.Reading as reading;
-ghost use Rattle.cert_text.specs.Taking.{Reads};
+ghost use Rattle.cert_lines.specs.Taken.{Reads};
 
-use crate::fault::CertFault;
-use crate::lines::{Lines, number_or_zero, take, take_numbers};
-use cert_lines::{LineKind, rising_at};
+use cert_lines::{CertFault, LineKind, Lines, number_or_zero, rising_at, take, take_numbers};
 use certificates::Kind;
 use face_poset::{Builder, Space};
 use order_complex::{ChainCounts, ChainFault};

@@ -2,18 +2,17 @@ ghost use Rattle.std.specs.Prelude.{◌≡◌, ◌≢◌, Ok, Err, IfOk, IfErr};
 ghost use Rattle.certificates.specs.Cert.{Cert, cert_of};
 ghost use Rattle.certificates.specs.Texts.{cert_text};
 ghost use Rattle.certificates.specs.WellFormed.{IsWellFormed};
-ghost use Rattle.cert_text.specs.declared.fault.CertFault.TheVariants.{Memory};
+ghost use Rattle.cert_lines.specs.declared.fault.CertFault.TheVariants.{Memory};
 ghost use Rattle.cert_text.specs.Reading as reading;
 ghost use Rattle.cert_text.specs.Reading.{certificate_of};
-ghost use Rattle.cert_text.specs.Taking.{Reads, Says};
+ghost use Rattle.cert_lines.specs.Taken.{Reads, Says};
 
 use crate::cover::read_covers;
-use crate::fault::CertFault;
 use crate::front::{read_modulus, read_version};
 use crate::homology::{read_classes, read_ranks};
-use crate::lines::{Lines, take_any};
 use crate::products::read_products;
 use crate::space::{read_chains, read_space};
+use cert_lines::{CertFault, Lines, take_any};
 use certificates::Certificate;
 use std::alloc::Global;
 

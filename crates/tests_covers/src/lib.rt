@@ -17,6 +17,8 @@ mod laws;
 #[cfg(test)]
 mod leasts;
 #[cfg(test)]
+mod listings;
+#[cfg(test)]
 mod parts;
 #[cfg(test)]
 mod searches;

@@ -9,10 +9,10 @@ use std::alloc::Global;
 use std::test::Fail;
 
 /// Two vertices and three edges between them: two generators and no relator.
-const WEDGE: &str = "[[[1,0],[1,0]],[[2,1,2],[2,1,2],[2,1,2]]]";
+pub const WEDGE: &str = "[[[1,0],[1,0]],[[2,1,2],[2,1,2],[2,1,2]]]";
 
 /// The presentation of a space; want of memory stands for a space that has none here.
-fn presented(alloc: Global, text: &str) -> Result<Presentation, WordFault> {
+pub fn presented(alloc: Global, text: &str) -> Result<Presentation, WordFault> {
     let space = read(alloc, text).map_err(|_| WordFault::Memory)?;
     let regular = check(alloc, &space).map_err(|_| WordFault::Memory)?;
     let components = regular.components(alloc)?;

@@ -1,7 +1,7 @@
 use Rattle.std.proofs.Common.{◌∙◌, sym, ap, Bool, cond, Ok, Err, ℕ, rules}
 use Rattle.std.specs.Prelude.{slice_index_or}
-use Rattle.cert_text.specs.declared.fault.CertFault.TheVariants.{BadVersion}
-use Rattle.cert_text.specs.Readers.{Answer}
+use Rattle.cert_lines.specs.declared.fault.CertFault.TheVariants.{BadVersion}
+use Rattle.cert_lines.specs.Readers.{Answer}
 use Rattle.cert_text.proofs.TakingLemmas.{breaks, version-taken, version-fails}
 use Rattle.cert_text.proofs.front.read_version.Goals as goal
 

@@ -1,6 +1,6 @@
 use Rattle.std.proofs.Common.{◌==◌, ◌&&◌, ◌∙◌, ℕ, sym, ap, refl, rules}
 use Rattle.std.specs.Prelude.{slice_index_or, nat_le}
-use Rattle.cert_text.specs.Readers.{and_then, many}
+use Rattle.cert_lines.specs.Readers.{and_then, many}
 use Rattle.cert_text.specs.Reading.{read_sides}
 use Rattle.cert_text.specs.Taking.{pair_if, lists_if}
 use Rattle.cert_text.proofs.TakingLemmas.{breaks, continues, fits-line, unfit-line, fails-line, out_of}

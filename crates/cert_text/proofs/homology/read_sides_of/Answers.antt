@@ -1,7 +1,7 @@
 use Rattle.std.proofs.Common.{◌≤◌, ◌∙◌, ◌-◌, sym, ap, arith, List, rules}
 use Rattle.certificates.specs.declared.lines.Line.{Line}
 use Rattle.certificates.specs.Degrees.{at}
-use Rattle.cert_text.specs.Readers.{many}
+use Rattle.cert_lines.specs.Readers.{many}
 use Rattle.cert_text.specs.Reading.{read_sides}
 use Rattle.cert_text.specs.Taking.{lists_if, onto}
 use Rattle.cert_text.proofs.Loops.{many-more, many-broken}

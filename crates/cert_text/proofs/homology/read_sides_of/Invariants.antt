@@ -1,7 +1,7 @@
 use Rattle.std.proofs.Common.{◌≡◌}
 use Rattle.std.specs.Prelude.{slice_set}
 use Rattle.certificates.specs.Degrees.{at}
-use Rattle.cert_text.specs.Readers.{many}
+use Rattle.cert_lines.specs.Readers.{many}
 use Rattle.cert_text.specs.Reading.{read_sides}
 use Rattle.cert_text.specs.Taking.{lists_if}
 use Rattle.cert_text.specs.Taking.{onto}

@@ -8,7 +8,7 @@ use Rattle.cert_lines.specs.Tables.{spot_in, table_in}
 use Rattle.cert_text.specs.Picks.{a_section, an_ending}
 use Rattle.cert_text.specs.Reading.{Frame, frame}
 use Rattle.cert_text.specs.Steps.{step_of, said, said_table, said_spent}
-use Rattle.cert_text.specs.Taking.{Says, IsTaken}
+use Rattle.cert_lines.specs.Taken.{Says, IsTaken}
 use Rattle.cert_text.proofs.EntryLemmas.{step-of, cover-step, spent-step, section-step, done-step}
 use Rattle.cert_text.proofs.listing.read_entry.Goals as goal
 

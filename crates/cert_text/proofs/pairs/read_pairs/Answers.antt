@@ -1,6 +1,6 @@
 use Rattle.std.proofs.Common.{◌≤◌, ◌∙◌, ◌-◌, sym, ap, arith, List, rules}
 use Rattle.certificates.specs.declared.lines.PairLine.{PairLine}
-use Rattle.cert_text.specs.Readers.{many}
+use Rattle.cert_lines.specs.Readers.{many}
 use Rattle.cert_text.specs.Reading.{read_pair}
 use Rattle.cert_text.specs.Taking.{onto}
 use Rattle.cert_text.proofs.Loops.{many-more, many-broken}

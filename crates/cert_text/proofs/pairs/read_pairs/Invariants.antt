@@ -1,5 +1,5 @@
 use Rattle.std.proofs.Common.{◌≡◌}
-use Rattle.cert_text.specs.Readers.{many}
+use Rattle.cert_lines.specs.Readers.{many}
 use Rattle.cert_text.specs.Reading.{read_pair}
 use Rattle.cert_text.specs.Taking.{onto}
 use Rattle.cert_text.proofs.pairs.read_pairs.Given as goal

@@ -1,7 +1,7 @@
 use Rattle.std.proofs.Common.{◌≤◌, ◌∙◌, ◌-◌, ◌++◌, ◌∷◌, [], sym, ap, arith, List, ℕ, rules, length}
 use Rattle.std.specs.Prelude.{slice_set}
 use Rattle.face_poset.specs.Poset.{layer}
-use Rattle.cert_text.specs.Readers.{many}
+use Rattle.cert_lines.specs.Readers.{many}
 use Rattle.cert_text.specs.Reading.{read_face}
 use Rattle.cert_text.specs.Taking.{onto}
 use Rattle.cert_text.proofs.Loops.{many-more, many-broken, length-more}

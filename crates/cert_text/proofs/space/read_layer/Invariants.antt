@@ -1,7 +1,7 @@
 use Rattle.std.proofs.Common.{◌≡◌, ◌+◌}
 use Rattle.std.specs.Prelude.{slice_set}
 use Rattle.face_poset.specs.Poset.{layer, count}
-use Rattle.cert_text.specs.Readers.{many}
+use Rattle.cert_lines.specs.Readers.{many}
 use Rattle.cert_text.specs.Reading.{read_face}
 use Rattle.cert_text.specs.Taking.{onto}
 use Rattle.cert_text.proofs.space.read_layer.Given as goal

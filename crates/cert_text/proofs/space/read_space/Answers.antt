@@ -2,7 +2,7 @@ use Rattle.std.proofs.Common.{◌∙◌, sym, ap, rules}
 use Rattle.certificates.specs.declared.kind.Kind.TheVariants as kind
 use Rattle.cert_text.specs.Picks.{pick_cells}
 use Rattle.cert_text.specs.Reading.{cells_fit, read_faces}
-use Rattle.cert_text.specs.Readers.{and_then}
+use Rattle.cert_lines.specs.Readers.{and_then}
 use Rattle.cert_text.proofs.TakingLemmas.{breaks, continues, fits-line, unfit-line, fails-line, out_of, cells-pick}
 use Rattle.cert_text.proofs.space.read_space.Goals as goal
 

@@ -26,7 +26,7 @@ pub enum CertFault {
 
 impl<T: Drop> From<AllocFailed<T>> for CertFault {
     ghost use Rattle.std.specs.Prelude.{◌≡◌};
-    ghost use Rattle.cert_text.specs.declared.fault.CertFault.TheVariants.{Memory};
+    ghost use Rattle.cert_lines.specs.declared.fault.CertFault.TheVariants.{Memory};
 
     ghost from_gives = { λ _ fault. fault ≡ Memory };
 
@@ -37,7 +37,7 @@ impl<T: Drop> From<AllocFailed<T>> for CertFault {
 
 impl From<AllocError> for CertFault {
     ghost use Rattle.std.specs.Prelude.{◌≡◌};
-    ghost use Rattle.cert_text.specs.declared.fault.CertFault.TheVariants.{Memory};
+    ghost use Rattle.cert_lines.specs.declared.fault.CertFault.TheVariants.{Memory};
 
     ghost from_gives = { λ _ fault. fault ≡ Memory };
 

@@ -1,9 +1,9 @@
 use Rattle.std.proofs.Common.{◌∙◌, ◌≡◌, ◌+◌, ◌-◌, sym, ap, subst, length, take, drop, Err}
 use Rattle.certificates.specs.Forms.{form_of}
-use Rattle.cert_text.specs.Readers.{Left, next_form, pieces_of}
-use Rattle.cert_text.specs.Taking.{formed_to}
-use Rattle.cert_text.proofs.LineLemmas.{line-cut, line-none}
-use Rattle.cert_text.proofs.lines.Lines.next_line.Goals as goal
+use Rattle.cert_lines.specs.Readers.{Left, next_form, pieces_of}
+use Rattle.cert_lines.specs.Taken.{formed_to}
+use Rattle.cert_lines.proofs.LineLemmas.{line-cut, line-none}
+use Rattle.cert_lines.proofs.lines.Lines.next_line.Goals as goal
 
 pub returns-in-None-clause-fault : goal.returns-in-None-clause-fault
 returns-in-None-clause-fault c = λ m version.

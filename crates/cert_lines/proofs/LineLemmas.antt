@@ -8,10 +8,10 @@ use Rattle.std.proofs.lemmas.List.Splits.{length-slice_split}
 use Rattle.certificates.specs.Forms.{Form, form_of}
 use Rattle.cert_lines.specs.declared.kind.LineKind.{LineKind}
 use Rattle.cert_lines.specs.Kinds.{kind_of}
-use Rattle.cert_lines.proofs.CallerLemmas.{cut-none, cut-some}
-use Rattle.cert_text.specs.declared.fault.CertFault.TheVariants.{BadLine, WrongOrder, Ends}
-use Rattle.cert_text.specs.Readers.{Left, Answer, pieces_of, form_at, formed, next_form}
-use Rattle.cert_text.specs.Taking.{formed_to, IsTaken, IsRefused}
+use Rattle.cert_lines.proofs.CutLemmas.{cut-none, cut-some}
+use Rattle.cert_lines.specs.declared.fault.CertFault.TheVariants.{BadLine, WrongOrder, Ends}
+use Rattle.cert_lines.specs.Readers.{Left, Answer, pieces_of, form_at, formed, next_form}
+use Rattle.cert_lines.specs.Taken.{formed_to, IsTaken, IsRefused}
 
 same_formed : (n : ℕ) (m : Left) (o : Option Form) → formed n m.pieces o ≡ formed_to n (record { number = n + 1; pieces = m.pieces }) o
 same_formed n m None = refl

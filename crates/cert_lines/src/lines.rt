@@ -1,13 +1,13 @@
 ghost use Rattle.std.specs.Prelude.{◌≡◌, ◌≢◌, ℕ, IfOk, IfErr, Err, ◌==◌, position, length, if◌then◌else◌, slice_index_or};
 ghost use Rattle.certificates.specs.Forms.{form_of};
 ghost use Rattle.cert_lines.specs.Listed.{numbers_in};
-ghost use Rattle.cert_text.specs.declared.fault.CertFault.TheVariants.{BadLine, Ends, Memory};
-ghost use Rattle.cert_text.specs.Readers.{next_form, take_line};
-ghost use Rattle.cert_text.specs.Reading.{start};
-ghost use Rattle.cert_text.specs.Taking.{Reads, formed_to, IsTaken, IsRefused, four_of, numbers_if, any};
+ghost use Rattle.cert_lines.specs.declared.fault.CertFault.TheVariants.{BadLine, Ends, Memory};
+ghost use Rattle.cert_lines.specs.Readers.{next_form, take_line, start};
+ghost use Rattle.cert_lines.specs.Taken.{Reads, formed_to, IsTaken, IsRefused, four_of, numbers_if, any};
 
 use crate::fault::CertFault;
-use cert_lines::{LineKind, line_kind, number_at};
+use crate::kind::LineKind;
+use crate::line::{line_kind, number_at};
 use certificates::Kind;
 use std::marker::Model;
 
@@ -20,7 +20,7 @@ pub struct Lines<'a> {
 }
 
 impl<'a> Model for Lines<'a> {
-    ghost use Rattle.cert_text.specs.Readers.{Left, pieces_of};
+    ghost use Rattle.cert_lines.specs.Readers.{Left, pieces_of};
 
     ghost Value = { Left };
 

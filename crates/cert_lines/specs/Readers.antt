@@ -7,12 +7,13 @@
 --   take_line version pick fits left   the next line, if it may stand here (WrongOrder) and is in its range (OutOfRange)
 --   many count read left        so many of the same
 --   each read xs left           one for each of these
+--   start bytes                 what is left at the begin of a text
 -- and as steps of these: form_at, formed, chosen, in_range
 use Rattle.std.specs.Prelude.{ℕ, zero, suc, ◌+◌, ◌==◌, List, [], ◌∷◌, length, Bool, if◌then◌else◌, Option, Some, None, Result, Ok, Err}
 use Rattle.std.specs.List.{slice_split}
 use Rattle.certificates.specs.Forms.{Form, form_of}
-use Rattle.cert_text.specs.declared.fault.CertFault.{CertFault}
-use Rattle.cert_text.specs.declared.fault.CertFault.TheVariants.{BadLine, WrongOrder, OutOfRange, Ends}
+use Rattle.cert_lines.specs.declared.fault.CertFault.{CertFault}
+use Rattle.cert_lines.specs.declared.fault.CertFault.TheVariants.{BadLine, WrongOrder, OutOfRange, Ends}
 
 pub record Left : Type 0 where
   pub number : ℕ
@@ -57,3 +58,6 @@ many (suc count) read left = and_then (read left) (λ a. and_then (many count re
 abbrev pub each : {A B : Type 0} → (B → Left → Answer A) → List B → Left → Answer (List A)
 each read [] left = Ok ([], left)
 each read (x ∷ xs) left = and_then (read x left) (λ a. and_then (each read xs a.1) (λ b. Ok (a.0 ∷ b.0, b.1)))
+
+abbrev pub start : List ℕ → Left
+start bytes = record { number = 1; pieces = pieces_of bytes }

@@ -1,8 +1,8 @@
 use Rattle.std.proofs.Common.{◌∙◌, ◌≡◌, ℕ, sym, subst, Err}
-use Rattle.cert_text.specs.declared.fault.CertFault.TheVariants.{BadLine}
-use Rattle.cert_text.specs.Readers.{next_form}
-use Rattle.cert_text.proofs.LineLemmas.{taken-there, taken-none}
-use Rattle.cert_text.proofs.lines.take_any.Goals as goal
+use Rattle.cert_lines.specs.declared.fault.CertFault.TheVariants.{BadLine}
+use Rattle.cert_lines.specs.Readers.{next_form}
+use Rattle.cert_lines.proofs.LineLemmas.{taken-there, taken-none}
+use Rattle.cert_lines.proofs.lines.take_any.Goals as goal
 
 pub returns-in-None-clause-fault : goal.returns-in-None-clause-fault
 returns-in-None-clause-fault c = λ m.

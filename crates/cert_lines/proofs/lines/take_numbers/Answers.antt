@@ -1,6 +1,6 @@
 use Rattle.std.proofs.Common.{◌∙◌, ap, sym, Ok, ℕ, List}
-use Rattle.cert_text.proofs.TakingLemmas.{numbers-taken}
-use Rattle.cert_text.proofs.lines.take_numbers.Goals as goal
+use Rattle.cert_lines.proofs.TakenLemmas.{numbers-taken}
+use Rattle.cert_lines.proofs.lines.take_numbers.Goals as goal
 
 pub returns : goal.returns
 returns c =

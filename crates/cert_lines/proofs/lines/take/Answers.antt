@@ -1,9 +1,9 @@
 use Rattle.std.proofs.Common.{ℕ, sym, subst, rules}
 use Rattle.cert_lines.specs.declared.kind.LineKind.{LineKind}
-use Rattle.cert_text.specs.declared.fault.CertFault.TheVariants.{WrongOrder}
-use Rattle.cert_text.specs.Taking.{IsTaken, IsRefused}
-use Rattle.cert_text.proofs.LineLemmas.{other-kind}
-use Rattle.cert_text.proofs.lines.take.Goals as goal
+use Rattle.cert_lines.specs.declared.fault.CertFault.TheVariants.{WrongOrder}
+use Rattle.cert_lines.specs.Taken.{IsTaken, IsRefused}
+use Rattle.cert_lines.proofs.LineLemmas.{other-kind}
+use Rattle.cert_lines.proofs.lines.take.Goals as goal
 
 pub returns-then-eq-clause-line : goal.returns-then-eq-clause-line
 returns-then-eq-clause-line c =
