@@ -1,0 +1,15 @@
+mod Choices
+mod SetSpaces
+mod SetRegularity
+mod RowLemmas
+mod Ranked
+mod Halving
+mod Powers
+mod MadeSets
+mod FacePlaces
+mod FacetPlaces
+mod FacetNumbers
+mod SetPlaces
+mod Whole
+mod ComplexExamples
+mod Numbering

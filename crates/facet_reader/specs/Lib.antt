@@ -1,0 +1,13 @@
+-- What the contracts mean: SetSpaces, Labels and Simplices.
+-- What the code keeps for itself: Places.
+-- Words of lower crates that these speak of stand at the end.
+pub mod SetSpaces
+pub mod Labels
+pub mod Simplices
+pub mod Places
+pub use Rattle.regular_check.specs.Rules
+pub use Rattle.face_poset.specs.Poset
+pub use Rattle.number_lists.specs.Words
+pub use Rattle.number_lists.specs.Members
+pub use Rattle.number_lists.specs.Cofaces
+pub use Rattle.tuple_spaces.specs.Tuples
