@@ -1,9 +1,10 @@
 -- Worked examples, by computation: a ball of two vertices, two edges between them, two bigons and one 3-cell. Its
--- cells have the ids 1 and 2, 3 and 4, 5 and 6, and 7.
+-- cells have the ids 1 and 2, 3 and 4, 5 and 6, and 7. And a path of three vertices, whose edges have the ids 4 and 5.
 use Rattle.std.proofs.Common.{◌≡◌, ℕ, List, [], ◌∷◌, true, false, length, refl}
 use Rattle.face_poset.specs.declared.cells.Pair.{Pair}
 use Rattle.local_field.specs.Towers.{TowerPair}
 use Rattle.local_field.specs.Buildings.{dim_at, is_below, flag_of, building_at, pairs_inside}
+use Rattle.local_field.specs.Flags.{flag_cells, flags_of}
 
 abbrev ball : List (List (List ℕ))
 ball = ([] ∷ [] ∷ []) ∷ ((1 ∷ 2 ∷ []) ∷ (1 ∷ 2 ∷ []) ∷ []) ∷ ((1 ∷ 2 ∷ []) ∷ (1 ∷ 2 ∷ []) ∷ []) ∷ ((1 ∷ 2 ∷ []) ∷ []) ∷ []
@@ -54,3 +55,14 @@ inside_bigon = refl
 -- 27 towers have the 3-cell as their top, and one is left over
 inside_solid : length (pairs_inside ball collapse 3 1) ≡ 13
 inside_solid = refl
+
+-- from the second vertex to the third, and from the first to the second
+abbrev path : List (List (List ℕ))
+path = ([] ∷ [] ∷ [] ∷ []) ∷ ((2 ∷ 3 ∷ []) ∷ (1 ∷ 2 ∷ []) ∷ []) ∷ [] ∷ [] ∷ []
+
+-- the chain of 1 and 5 comes before that of 2 and 4
+path_flags : flag_cells path 1 ≡ 2 ∷ 1 ∷ []
+path_flags = refl
+
+path_by_places : (flags_of path).space ≡ ([] ∷ [] ∷ [] ∷ []) ∷ ((1 ∷ 2 ∷ []) ∷ (2 ∷ 3 ∷ []) ∷ []) ∷ [] ∷ [] ∷ []
+path_by_places = refl

@@ -19,3 +19,6 @@ mod TowerParts
 mod Solids
 mod FlagSteps
 mod Layers
+mod Orders
+mod Numberings
+mod Renumbered

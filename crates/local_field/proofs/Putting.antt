@@ -75,7 +75,7 @@ module _ (space : List (List (List ℕ))) where
   append_nil [] = refl
   append_nil (x ∷ xs) = ap (λ (ws : List ℕ). x ∷ ws) (append_nil xs)
 
-  number-alone : (t : List ℕ) → number_under space [] t ≡ number_or_zero (chains_of space (length t - 1)) (reverse t)
+  pub number-alone : (t : List ℕ) → number_under space [] t ≡ number_or_zero (chains_of space (length t - 1)) (reverse t)
   number-alone t =
       let e : length t + 0 - 1 ≡ length t - 1 = omega arith in
       ap (λ (k : ℕ). number_or_zero (chains_of space k) (reverse t ++ [])) e ∙ ap (number_or_zero (chains_of space (length t - 1))) (append_nil (reverse t))

@@ -1,11 +1,12 @@
--- What the contracts mean: Towers, Inside, Buildings and Numbered.
--- What the code keeps for itself: Listed.
+-- What the contracts mean: Towers, Inside, Buildings, Numbered, and Flags without its last words.
+-- What the code keeps for itself: Listed, and of Flags AreFlags, IsOf, IsOrderOf, IsOrderPut and HasPlaces.
 -- Words of lower crates that these speak of stand at the end.
 pub mod Towers
 pub mod Inside
 pub mod Buildings
 pub mod Numbered
 pub mod Listed
+pub mod Flags
 pub use Rattle.order_complex.specs.Chains
 pub use Rattle.order_complex.specs.Complex
 pub use Rattle.vector_field.specs.Pairs

@@ -9,10 +9,10 @@ use face_poset::{Cell, Graded, Space};
 use std::alloc::{AllocError, Global};
 
 /// The id of a cell, which counts all cells from 1, vertices first.
-pub(crate) fn id_of(space: &Space, dim: u8, number: u32) -> u32
+pub(crate) fn id_of<G: Graded>(space: &G, dim: u8, number: u32) -> u32
     requires dim { dim ≤ 3 }
-    requires number { number ≤ count space.now dim }
-    ensures { result ≡ id_of space.now (cell_at dim number) }
+    requires number { number ≤ count (G.space space.now) dim }
+    ensures { result ≡ id_of (G.space space.now) (cell_at dim number) }
 {
     match dim {
         0 => number,
@@ -53,16 +53,16 @@ pub(crate) fn cell_of(space: &Space, id: u32) -> Cell
 }
 
 /// The flag of a cell: the ids of the cell, of its first facet, of the first facet of that, and so on.
-pub(crate) fn flag_of(
+pub(crate) fn flag_of<G: Graded>(
     alloc: Global,
-    space: &Space,
+    space: &G,
     dim: u8,
     number: u32,
 ) -> Result<Vec<u32>, AllocError>
     requires dim { dim ≤ 3 }
     requires first { 1 ≤ number }
-    requires last { number ≤ count space.now dim }
-    ensures { IfOk result (λ flag. flag.items ≡ flag_of space.now dim number) }
+    requires last { number ≤ count (G.space space.now) dim }
+    ensures { IfOk result (λ flag. flag.items ≡ flag_of (G.space space.now) dim number) }
 {
     let mut flag = Vec::new(alloc);
     let mut cell = number;

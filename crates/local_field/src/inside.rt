@@ -111,13 +111,13 @@ fn push_pair(
 }
 
 /// The number of the chain that goes up a tower and on along the cells `over`, or 0 where it is none.
-fn number_under(
+pub(crate) fn number_under(
     alloc: Global,
     chains: &Chains<'_>,
     over: &[u32],
     tower: &[u32],
 ) -> Result<u32, AllocError>
-    requires some { 1 ≤ length over.now }
+    requires some { 1 ≤ length tower.now + length over.now }
     requires few { length tower.now + length over.now ≤ 4 }
     ensures { IfOk result (λ number. number ≡ number_under chains.now over.now tower.now) }
 {

@@ -4,11 +4,15 @@
 mod building;
 mod cell_ids;
 mod field;
+mod flags;
 mod inside;
 mod laws;
+mod numbering;
+mod renumbering;
 mod rounds;
 
 pub use field::local_field;
+pub use flags::Flags;
 pub use laws::{
     cells_leave_over, flags_are_full, local_leaves_over, local_pairs_are_fields, spaces_are_flagged,
 };

@@ -7,8 +7,8 @@ use Rattle.local_field.proofs.FlagSteps.{flag-more, first-range}
 use Rattle.local_field.proofs.cell_ids.flag_of.Goals as goal
 
 pub loop-step-preserved : goal.loop-step-preserved
-loop-step-preserved c =
-    let space : List (List (List ℕ)) = c.args.space.now in
+loop-step-preserved g c =
+    let space : List (List (List ℕ)) = g.G.Graded.space c.args.space.now in
     let d : ℕ = c.args.dim - c.loop-step.step in
     let k : ℕ = c.args.dim - (c.loop-step.step + 1) in
     let flag : List ℕ = c.loop-step.flag.items in
