@@ -1,3 +1,12 @@
+mod BasesLemmas
 mod Bounds
+mod ClassLemmas
+mod Cohomology
+mod Completing
 mod Complexes
+mod Duals
 mod Ranked
+mod ReducedRows
+mod RowSteps
+mod Sweeping
+mod Triangles
