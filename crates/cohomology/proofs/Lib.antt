@@ -8,5 +8,6 @@ mod Duals
 mod Ranked
 mod ReducedRows
 mod RowSteps
+mod SignedRows
 mod Sweeping
 mod Triangles

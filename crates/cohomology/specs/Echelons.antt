@@ -1,6 +1,7 @@
 -- The reduced coboundaries in echelon form, and the Betti numbers that they leave. `levels` are the degrees of a reduced complex, F is
 -- the arithmetic of a field. (Cohomology of a complex by ranks; textbook.)
 --   AreRowsOf F levels space          the rows of the degrees from 0 to 3 are those of the coboundaries on the chains of a space
+--   SignedRowsAreRows F               the rows of the chains as a signed set are these rows
 --   IsEchelon F levels degree e       e is an echelon form of the reduced rows of a degree that are not zero, with its history
 --   rank_in e                         its number of pivots
 --   AreEchelons F levels e            so for the degrees 0, 1 and 2, of a reduced complex; each of the numbers is that of the critical cells
@@ -16,12 +17,18 @@ use Rattle.field_matrix.specs.declared.history.Elimination.{Elimination}
 use Rattle.split_laws.specs.Kinds.{criticals}
 use Rattle.critical_complex.specs.Levels.{Level, kinds_at, rows_at, AreFilledAt}
 use Rattle.critical_complex.specs.Complex.{IsReducedComplex}
+use Rattle.pair_stages.specs.Signed.{signed_rows}
+use Rattle.order_complex.specs.Complex.{complex_of, negative_in}
 use Rattle.order_complex.specs.Ranks.{rows_of}
 use Rattle.order_complex.specs.declared.betti.Betti.{Betti}
 use Rattle.cohomology.specs.declared.echelons.Echelons.{Echelons}
 
 abbrev pub AreRowsOf : Ops → List Level → Layers → Type 0
 AreRowsOf F levels space = (degree : ℕ) → degree ≤ 3 → rows_at levels degree ≡ rows_of F space degree
+
+-- so they are those of a reduction of the chains as a signed set
+abbrev pub SignedRowsAreRows : Ops → Type 0
+SignedRowsAreRows F = (space : Layers) (degree : ℕ) → degree ≤ 3 → signed_rows F (complex_of space) (negative_in space) degree ≡ rows_of F space degree
 
 pub record IsEchelon {G : Type 0} (F : Ops) (levels : List Level) (degree : ℕ) (e : Elimination G) : Type 0 where
   pub rows : List (List ℕ)
