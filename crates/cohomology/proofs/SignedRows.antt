@@ -12,7 +12,7 @@ use Rattle.order_complex.specs.Complex.{number_or_zero, facet_numbers, facet_lis
 use Rattle.order_complex.specs.Ranks.{rows_on, rows_of}
 use Rattle.order_complex.proofs.CallerLemmas.{chains_of-four, holds-reverse, weight, coboundary-mark, count-chains, layer-facets, number-of}
 use Rattle.pair_stages.specs.Signed.{signed_entry, signed_rows}
-use Rattle.cohomology.specs.Echelons.{SignedRowsAreRows}
+use Rattle.cohomology.specs.Echelons.{ReductionsHaveRows}
 
 nothings : {A B : Type 0} (xs : List A) (ys : List B) → length xs ≡ length ys → map {B = List ℕ} (λ x. []) xs ≡ map (λ y. []) ys
 nothings [] [] e = refl
@@ -87,5 +87,5 @@ module _ (F : Ops) (L : IsField F) (space : Layers) where
   signed-rows_of (suc (suc (suc zero))) small = rows_three
   signed-rows_of (suc (suc (suc (suc degree)))) small = absurd (omega arith)
 
-pub signed_rows_are_rows : (F : Ops) → IsField F → SignedRowsAreRows F
-signed_rows_are_rows F L space degree small = signed-rows_of F L space degree small
+pub reductions_have_rows : (F : Ops) → IsField F → ReductionsHaveRows F
+reductions_have_rows F L space pairs levels h degree small = (h.each degree (omega (arith, small))).rows ∙ signed-rows_of F L space degree small

@@ -1,7 +1,7 @@
 -- The reduced coboundaries in echelon form, and the Betti numbers that they leave. `levels` are the degrees of a reduced complex, F is
 -- the arithmetic of a field. (Cohomology of a complex by ranks; textbook.)
 --   AreRowsOf F levels space          the rows of the degrees from 0 to 3 are those of the coboundaries on the chains of a space
---   SignedRowsAreRows F               the rows of the chains as a signed set are these rows
+--   ReductionsHaveRows F              a reduction of the chains of a space by a field of pairs has these rows
 --   IsEchelon F levels degree e       e is an echelon form of the reduced rows of a degree that are not zero, with its history
 --   rank_in e                         its number of pivots
 --   AreEchelons F levels e            so for the degrees 0, 1 and 2, of a reduced complex; each of the numbers is that of the critical cells
@@ -9,6 +9,7 @@
 --   number_at numbers degree          the number of a degree from 0 to 3
 --   critical_entries levels           rows times columns of the three reduced coboundaries, summed
 use Rattle.std.specs.Prelude.{◌≡◌, ℕ, zero, suc, ◌+◌, ◌*◌, ◌≤◌, List, length}
+use Rattle.face_poset.specs.declared.cells.Pair.{Pair}
 use Rattle.face_poset.specs.Poset.{Layers}
 use Rattle.small_field.specs.Field.{Ops}
 use Rattle.linear_laws.specs.Echelon.{IsReducedTo, rank_of}
@@ -16,8 +17,7 @@ use Rattle.linear_laws.specs.Vectors.{IsHistory}
 use Rattle.field_matrix.specs.declared.history.Elimination.{Elimination}
 use Rattle.split_laws.specs.Kinds.{criticals}
 use Rattle.critical_complex.specs.Levels.{Level, kinds_at, rows_at, AreFilledAt}
-use Rattle.critical_complex.specs.Complex.{IsReducedComplex}
-use Rattle.pair_stages.specs.Signed.{signed_rows}
+use Rattle.critical_complex.specs.Complex.{IsReducedComplex, IsReductionOf}
 use Rattle.order_complex.specs.Complex.{complex_of, negative_in}
 use Rattle.order_complex.specs.Ranks.{rows_of}
 use Rattle.order_complex.specs.declared.betti.Betti.{Betti}
@@ -26,9 +26,8 @@ use Rattle.cohomology.specs.declared.echelons.Echelons.{Echelons}
 abbrev pub AreRowsOf : Ops → List Level → Layers → Type 0
 AreRowsOf F levels space = (degree : ℕ) → degree ≤ 3 → rows_at levels degree ≡ rows_of F space degree
 
--- so they are those of a reduction of the chains as a signed set
-abbrev pub SignedRowsAreRows : Ops → Type 0
-SignedRowsAreRows F = (space : Layers) (degree : ℕ) → degree ≤ 3 → signed_rows F (complex_of space) (negative_in space) degree ≡ rows_of F space degree
+abbrev pub ReductionsHaveRows : Ops → Type 0
+ReductionsHaveRows F = (space : Layers) (pairs : List Pair) (levels : List Level) → IsReductionOf F (complex_of space) (negative_in space) pairs levels → AreRowsOf F levels space
 
 pub record IsEchelon {G : Type 0} (F : Ops) (levels : List Level) (degree : ℕ) (e : Elimination G) : Type 0 where
   pub rows : List (List ℕ)

@@ -5,7 +5,7 @@ ghost use Rattle.linear_laws.specs.Echelon.{IsReduced};
 ghost use Rattle.split_laws.specs.Kinds.{criticals};
 ghost use Rattle.critical_complex.specs.Levels.{Level, kinds_at};
 ghost use Rattle.order_complex.specs.Homology.{IsBetti};
-ghost use Rattle.cohomology.specs.Echelons.{AreEchelons, AreRowsOf, IsEchelon, SignedRowsAreRows};
+ghost use Rattle.cohomology.specs.Echelons.{AreEchelons, AreRowsOf, IsEchelon, ReductionsHaveRows};
 ghost use Rattle.cohomology.specs.Echelons.{critical_entries, rank_in};
 
 use critical_complex::Reduced;
@@ -81,10 +81,9 @@ impl<F: Field> Echelons<F> {
     }
 }
 
-/// The rows of the chains of a space as a signed set are those of the coboundaries on the chains. So a reduction of the
-/// chains by a field of pairs has these rows.
-pub fn signed_rows_are_rows<F: Field>()
-    ensures { SignedRowsAreRows F.ops }
+/// A reduction of the chains of a space by a field of pairs has the rows of the coboundaries on the chains.
+pub fn reductions_have_rows<F: Field>()
+    ensures { ReductionsHaveRows F.ops }
 {}
 
 /// The reduced rows of a degree that are not zero, in echelon form. Each row addition is one step.

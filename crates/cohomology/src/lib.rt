@@ -11,5 +11,5 @@ mod line;
 mod rows;
 
 pub use degrees::Bases;
-pub use echelons::{Echelons, signed_rows_are_rows};
+pub use echelons::{Echelons, reductions_have_rows};
 pub use line::Line;
