@@ -12,6 +12,13 @@ use Rattle.cohomology.specs.Swept.{front, ArePivots, AreSwept, IsDual, IsForm, I
 use Rattle.cohomology.proofs.Duals.{dual_begun, dual_more}
 use Rattle.cohomology.proofs.Sweeping.{not_swept, one_more_swept, plus_at, swept_more}
 
+-- what a sum of two numbers is, by what they are
+pub sum_of : (F : Ops) (s a b x y : ℕ) → s ≡ F.add a b → a ≡ x → b ≡ y → s ≡ F.add x y
+sum_of F s a b x y e f g = e ∙ ap (λ k. F.add k b) f ∙ ap (F.add x) g
+
+pub value_of : (f : ℕ → ℕ) (s a x : ℕ) → s ≡ f a → a ≡ x → s ≡ f x
+value_of f s a x e g = e ∙ ap f g
+
 -- ---- a row copied place by place
 
 pub record IsCopiedUpto (cols col : ℕ) (source row : List ℕ) : Type 0 where

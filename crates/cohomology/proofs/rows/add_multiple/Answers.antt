@@ -1,7 +1,7 @@
-use Rattle.std.proofs.Common.{[], slice_index, ap, sym, ◌∙◌, arith}
+use Rattle.std.proofs.Common.{[], slice_index, sym, ◌∙◌, arith}
 use Rattle.linear_laws.specs.Vectors.{row_at, IsVector}
 use Rattle.linear_laws.proofs.CallerLemmas.{all_at}
-use Rattle.cohomology.proofs.RowSteps.{not_added, added_more, added}
+use Rattle.cohomology.proofs.RowSteps.{not_added, added_more, added, sum_of, value_of}
 use Rattle.cohomology.proofs.rows.add_multiple.Goals as goal
 
 pub loop-col-init : goal.loop-col-init
@@ -17,9 +17,9 @@ pub loop-col-preserved : goal.loop-col-preserved
 loop-col-preserved g c =
     added_more g.F.Field.ops (g.F.Field.number_of c.args.factor) c.loop-col.col (g.F.Field.number_of c.add-value.result) c.args.row.now (row_at c.args.matrix.now.rows c.args.index) c.loop-col.row c.set.new.self
     (omega (arith, c.loop-col-test.true, c.loop-col.invariant.long, c.requires.cols, c.cols-col-end.ensures.cols)) c.loop-col.invariant c.set.ensures
-    (c.add-value.ensures
-    ∙ ap (λ x. g.F.Field.ops.add x (g.F.Field.number_of c.mul.result)) c.get.ensures
-    ∙ ap (g.F.Field.ops.add (slice_index c.loop-col.row c.loop-col.col)) (c.mul.ensures ∙ ap (g.F.Field.ops.mul (g.F.Field.number_of c.args.factor)) c.get-in-loop-col.ensures))
+    (sum_of g.F.Field.ops (g.F.Field.number_of c.add-value.result) (g.F.Field.number_of c.get.result) (g.F.Field.number_of c.mul.result) (slice_index c.loop-col.row c.loop-col.col)
+    (g.F.Field.ops.mul (g.F.Field.number_of c.args.factor) (slice_index (row_at c.args.matrix.now.rows c.args.index) c.loop-col.col)) c.add-value.ensures c.get.ensures
+    (value_of (g.F.Field.ops.mul (g.F.Field.number_of c.args.factor)) (g.F.Field.number_of c.mul.result) (g.F.Field.number_of c.get-in-loop-col.result) (slice_index (row_at c.args.matrix.now.rows c.args.index) c.loop-col.col) c.mul.ensures c.get-in-loop-col.ensures))
 
 pub returns : goal.returns
 returns g c =

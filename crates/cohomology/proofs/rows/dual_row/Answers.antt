@@ -1,7 +1,8 @@
 use Rattle.std.proofs.Common.{◌≡◌, ℕ, List, length, length-set, slice_index, ap, sym, ◌∙◌, subst, arith}
+use Rattle.linear_laws.specs.Vectors.{row_at}
 use Rattle.linear_laws.proofs.CallerLemmas.{length-mark}
 use Rattle.cohomology.specs.Swept.{ArePivots, IsDual, IsForm}
-use Rattle.cohomology.proofs.RowSteps.{no_pivot_yet, one_more_dual, pivot_below}
+use Rattle.cohomology.proofs.RowSteps.{no_pivot_yet, one_more_dual, pivot_below, sum_of, value_of}
 use Rattle.cohomology.proofs.rows.dual_row.Goals as goal
 
 pub loop-index-init : goal.loop-index-init
@@ -34,9 +35,8 @@ loop-index-preserved g c = record {
       c.loop-index.index c.args.place c.pivot-own.result c.pivot-pivot.result (g.F.Field.number_of c.add-value.result) c.loop-index.v c.set.new.self
       (omega (arith, c.loop-index-test.true, c.rank-index-end.ensures.rank)) c.requires.place (c.loop-index.invariant.dual pivots places p q)
       (c.pivot-own.ensures.pivots places (subst (λ k. ArePivots k c.args.others.now.rows places) c.requires.cols q).reduced) (c.pivot-pivot.ensures.pivots pivots p.reduced) c.set.ensures
-      (c.add-value.ensures
-      ∙ ap (λ x. g.F.Field.ops.add x (g.F.Field.number_of c.neg.result)) c.get.ensures
-      ∙ ap (g.F.Field.ops.add (slice_index c.loop-index.v c.pivot-pivot.result)) (c.neg.ensures ∙ ap g.F.Field.ops.neg c.get-in-loop-index.ensures));
+      (sum_of g.F.Field.ops (g.F.Field.number_of c.add-value.result) (g.F.Field.number_of c.get.result) (g.F.Field.number_of c.neg.result) (slice_index c.loop-index.v c.pivot-pivot.result)
+      (g.F.Field.ops.neg (slice_index (row_at c.args.form.now.rows c.loop-index.index) c.pivot-own.result)) c.add-value.ensures c.get.ensures (value_of g.F.Field.ops.neg (g.F.Field.number_of c.neg.result) (g.F.Field.number_of c.get-in-loop-index.result) (slice_index (row_at c.args.form.now.rows c.loop-index.index) c.pivot-own.result) c.neg.ensures c.get-in-loop-index.ensures));
 }
 
 pub returns : goal.returns
