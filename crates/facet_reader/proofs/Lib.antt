@@ -13,3 +13,5 @@ mod SetPlaces
 mod Whole
 mod ComplexExamples
 mod Numbering
+mod ChainLemmas
+mod OrderExamples

@@ -17,7 +17,7 @@
 --   rows_in vs                   the lists of labels that values are
 --   empty_fault vs               the fault where there is no list
 --   fault_in vs                  the first fault of these lists
---   unless_fault fault rows      the lists where there is no fault
+--   unless_fault fault a         what was read, where there is no fault
 --   rows_of v                    the lists of labels that a value is, or its first fault
 use Rattle.std.specs.Prelude.{ℕ, ◌==◌, List, [], ◌∷◌, ◌++◌, if◌then◌else◌, Option, Some, None, option_map, Result, Ok, Err}
 use Rattle.std.specs.List.{flat_map}
@@ -82,9 +82,9 @@ empty_fault (v ∷ vs) = None
 abbrev pub fault_in : List Value → Option FacetFault
 fault_in vs = or_else (option_map Shape (shape_in vs)) (or_else (empty_fault vs) (first_some row_fault vs))
 
-abbrev pub unless_fault : Option FacetFault → List (List ℕ) → Result (List (List ℕ)) FacetFault
-unless_fault None rows = Ok rows
-unless_fault (Some fault) rows = Err fault
+abbrev pub unless_fault : {A : Type 0} → Option FacetFault → A → Result A FacetFault
+unless_fault None a = Ok a
+unless_fault (Some fault) a = Err fault
 
 abbrev pub rows_of : Value → Result (List (List ℕ)) FacetFault
 rows_of (number p n) = Err (Shape p)

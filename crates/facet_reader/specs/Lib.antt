@@ -1,9 +1,11 @@
--- What the contracts mean: SetSpaces, Labels and Simplices.
+-- What the contracts mean: SetSpaces, Labels, Simplices, Orders and OrderLaws.
 -- What the code keeps for itself: Places.
 -- Words of lower crates that these speak of stand at the end.
 pub mod SetSpaces
 pub mod Labels
 pub mod Simplices
+pub mod Orders
+pub mod OrderLaws
 pub mod Places
 pub use Rattle.regular_check.specs.Rules
 pub use Rattle.face_poset.specs.Poset

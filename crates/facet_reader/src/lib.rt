@@ -1,5 +1,5 @@
-//! Spaces whose cells are sets of vertices, read from nested lists: simplicial complexes by lists of
-//! labels, and order complexes of finite partial orders.
+//! Spaces whose cells are sets of vertices: simplicial complexes, read from lists of labels, and the
+//! order complexes of finite partial orders, as definitions with laws.
 #![tactic(auto)]
 
 mod cells;
@@ -11,5 +11,5 @@ mod simplicial;
 mod vertices;
 
 pub use fault::FacetFault;
-pub use laws::set_spaces_are_regular;
+pub use laws::{below_is_least, order_complexes_are_regular, set_spaces_are_regular};
 pub use simplicial::simplices;
