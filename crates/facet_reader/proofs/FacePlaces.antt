@@ -4,18 +4,18 @@ use Rattle.std.specs.List.{flat_map, list_all}
 use Rattle.std.specs.List.Sorted.{IsStrictlyIncreasing}
 use Rattle.std.proofs.Math.Nat.{mul-le-mul_right}
 use Rattle.std.proofs.lemmas.Grind.{flat_map-append}
-use Rattle.std.proofs.lemmas.List.{take_more, take_all, length-map}
+use Rattle.std.proofs.lemmas.List.{take_more, take_all, length-map, get_or-take, length-take-le}
 use Rattle.number_lists.specs.Words.{upto, holds}
 use Rattle.number_lists.specs.Members.{In, here, there}
 use Rattle.number_lists.specs.Cofaces.{IsRising}
-use Rattle.number_lists.proofs.CallerLemmas.{In-cases, In-map, map-In, In-flat_map, flat_map-In, In-filter, filter-In, In-inside, any-In, any-some, In-all, all-In, holds-In, In-holds, In-at, at-In, upto-In, In-upto, In-Contains, Contains-In, increasing-upto, same_increasing, same_holds, length-inside, distinct_rising}
+use Rattle.number_lists.proofs.CallerLemmas.{In-cases, In-left, append-In, In-map, map-In, In-flat_map, flat_map-In, In-filter, filter-In, In-inside, any-In, any-some, In-all, all-In, holds-In, In-holds, In-at, at-In, upto-In, In-upto, In-Contains, Contains-In, increasing-upto, same_increasing, same_holds, length-inside, distinct_rising}
 use Rattle.facet_reader.specs.SetSpaces.{choices, sets_of}
 use Rattle.facet_reader.specs.Simplices.{is_face}
 use Rattle.facet_reader.specs.Places.{place_of, AreRows, Adds, IsCrowded, made_by}
 use Rattle.facet_reader.proofs.Choices.{IsPart, no_part, kept, left, empty_part, part_of_part, part-In, choice-part, choice-of-part}
 use Rattle.facet_reader.proofs.Ranked.{Ranked, no_rank, rank, ranked-filter, ranked-append, ranked-map, rises-increasing, increasing-rises}
 use Rattle.facet_reader.proofs.Powers.{power-next, power-some}
-use Rattle.facet_reader.proofs.MadeSets.{crowded-later}
+use Rattle.facet_reader.proofs.MadeSets.{adds-same, crowded-later}
 
 -- ---- increasing lists
 
@@ -203,3 +203,17 @@ sets-many n rows size found sorted are some h rises adds_none many =
 
 pub all_rows : (size : ℕ) (rows : List (List ℕ)) (i : ℕ) (now : List ℕ) → length rows ≤ i → Adds (made_in size (take i rows)) [] now → Adds (made_in size rows) [] now
 all_rows size rows i now l h = subst (λ (rs : List (List ℕ)). Adds (made_in size rs) [] now) (take_all i rows l) h
+
+-- a row that is the one before it again
+pub made-in-again : (size : ℕ) (rows : List (List ℕ)) (i : ℕ) (now : List ℕ) → i < length rows → 1 ≤ i → get_or rows i [] ≡ get_or rows (i - 1) [] → Adds (made_in size (take i rows)) [] now → Adds (made_in size (take (i + 1) rows)) [] now
+made-in-again size rows i now l some e h =
+    let more : made_in size (take (i + 1) rows) ≡ made_in size (take i rows) ++ made_by size 0 (get_or rows i []) = made-in-more size rows i l in
+    let at : get_or (take i rows) (i - 1) [] ≡ get_or rows (i - 1) [] = get_or-take i rows (i - 1) [] (omega (arith, some)) in
+    let long : length (take i rows) ≡ i = length-take-le i rows (omega (arith, l)) in
+    let stands : In (get_or rows (i - 1) []) (take i rows) = subst (λ (r : List ℕ). In r (take i rows)) at (at-In (take i rows) (i - 1) [] (omega (arith, some, long))) in
+    adds-same
+    (λ z j. subst (In z) (sym more) (In-left (made_by size 0 (get_or rows i [])) j))
+    (λ z j. elim (append-In (made_in size (take i rows)) (made_by size 0 (get_or rows i [])) (subst (In z) more j)) [
+      | inl k ↦ k
+      | inr k ↦ In-flat_map (made_by size 0) stands (subst (λ (r : List ℕ). In z (made_by size 0 r)) e k)
+    ]) h

@@ -1,6 +1,6 @@
 // The places of the sets that lie together in lists.
 ghost use Rattle.std.specs.Prelude.{◌≡◌, ◌≢◌, ◌≤◌, ◌<◌, ◌+◌, ◌-◌, ◌*◌, ◌^◌, ◌∷◌, [], ℕ};
-ghost use Rattle.std.specs.Prelude.{length, map, All, Contains, IfOk, IfErr, OnOk};
+ghost use Rattle.std.specs.Prelude.{length, map, slice_index_or, true, All, Contains, IfOk, IfErr, OnOk};
 ghost use Rattle.std.specs.List.Sorted.{IsStrictlyIncreasing};
 ghost use Rattle.facet_reader.specs.SetSpaces.{sets_of};
 ghost use Rattle.facet_reader.specs.Simplices.{is_face};
@@ -13,12 +13,12 @@ use std::alloc::Global;
 /// The most cells that a space may have.
 pub(crate) const MOST_CELLS: usize = 60_000;
 
-/// So many places stand, some of them more than once, when they are sorted.
+/// Where so many places stand, they are sorted and each is left once.
 const FULL: usize = 240_000;
 
 /// The places of the sets of so many numbers that lie together in one of the lists, in increasing
-/// order, or `TooManyCells` exactly where there are more than 60,000 of them. No more than that are
-/// made.
+/// order, or `TooManyCells` exactly where there are more than 60,000 of them. No more than 240,000
+/// places stand at any time, and a list that is the one before it again costs nothing.
 pub(crate) fn list_sets(alloc: Global, rows: &Lists, size: u32) -> Result<Vec<usize>, FacetFault>
     requires low { 1 ≤ size }
     requires high { size ≤ 4 }
@@ -32,6 +32,9 @@ pub(crate) fn list_sets(alloc: Global, rows: &Lists, size: u32) -> Result<Vec<us
 {
     let mut places = Vec::new(alloc);
     for index in 0..rows.len() {
+        if is_repeated(rows, index) {
+            continue;
+        }
         push_sets(rows.get(index), size, 0, &mut places)?;
     }
     sort_indexes_once(&mut places);
@@ -39,6 +42,14 @@ pub(crate) fn list_sets(alloc: Global, rows: &Lists, size: u32) -> Result<Vec<us
         return Err(FacetFault::TooManyCells);
     }
     Ok(places)
+}
+
+/// Whether a list is the one before it again.
+fn is_repeated(rows: &Lists, index: usize) -> bool
+    requires { index < length rows.now }
+    ensures { result ≡ true → (1 ≤ index) × (slice_index_or rows.now index [] ≡ slice_index_or rows.now (index - 1) []) }
+{
+    index > 0 && *rows.get(index) == *rows.get(index - 1)
 }
 
 /// Adds the places of the sets of so many of the numbers, after others with the place `high`.

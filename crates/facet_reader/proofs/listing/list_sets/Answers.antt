@@ -3,7 +3,7 @@ use Rattle.std.proofs.lemmas.Result.{err_from_is_err_and}
 use Rattle.facet_reader.specs.Places.{Adds, IsCrowded, made_by}
 use Rattle.facet_reader.proofs.Powers.{power-most}
 use Rattle.facet_reader.proofs.MadeSets.{adds-both}
-use Rattle.facet_reader.proofs.FacePlaces.{made-in-more, sets-listed, sets-crowded, sets-many, all_rows}
+use Rattle.facet_reader.proofs.FacePlaces.{made-in-more, sets-listed, sets-crowded, sets-many, all_rows, made-in-again}
 use Rattle.facet_reader.proofs.listing.list_sets.Goals as goal
 
 pub push_sets-requires-clause-room : goal.push_sets-requires-clause-room
@@ -33,3 +33,9 @@ returns-clause-sets c =
     λ n are small. sets-listed n c.args.rows.now c.args.size c.loop-index.places.items c.sort_indexes_once.new.indexes.items are small c.requires.low
     (all_rows c.args.size c.args.rows.now c.loop-index.index c.loop-index.places.items (omega (arith, c.len-index-end.ensures, c.loop-index-test.false)) c.loop-index.invariant)
     c.sort_indexes_once.ensures.rises c.sort_indexes_once.ensures.keeps c.sort_indexes_once.ensures.adds_none
+
+pub loop-index-preserved-then-is_repeated : goal.loop-index-preserved-then-is_repeated
+loop-index-preserved-then-is_repeated c =
+    let lt : c.loop-index.index < length c.args.rows.now = omega (arith, c.len-index-end.ensures, c.loop-index-test.true) in
+    let r = c.is_repeated.ensures c.if-is_repeated.true in
+    made-in-again c.args.size c.args.rows.now c.loop-index.index c.loop-index.places.items lt r.0 r.1 c.loop-index.invariant
