@@ -1,6 +1,6 @@
 -- How a run of `covers` ends, from what its listing is made from and from how that ends.
 use Rattle.std.proofs.Common.{◌≡◌, ◌≢◌, ℕ, ◌+◌, ◌-◌, ◌≤◌, Bool, true, false, List, [], ◌∷◌, suc, map, filter, length, None, Some, Result, Ok, Err, refl, sym, ap, ◌∙◌, subst, inl, inr, arith}
-use Rattle.std.specs.Prelude.{not, ◌==◌, ◌&&◌, ◌||◌, ◌⊎◌, nat_le, if◌then◌else◌, option_map, IfOk}
+use Rattle.std.specs.Prelude.{not, ◌==◌, ◌&&◌, ◌⊎◌, nat_le, if◌then◌else◌, option_map, IfOk}
 use Rattle.std.specs.declared.option.Option.{Option}
 use Rattle.std.specs.List.{range_with_len}
 use Rattle.std.proofs.lemmas.Simd.{map-map}
@@ -37,8 +37,8 @@ use Rattle.face_poset.specs.Poset.{count}
 use Rattle.regular_check.specs.Components.{component_count, is_least}
 use Rattle.std.proofs.lemmas.List.FromFn.{length-map-range_with_len, length-range_with_len}
 use Rattle.std.proofs.lemmas.List.Filters.{length-filter_both}
-use Rattle.hap_cli.specs.CoverTexts.{has_several, covers_text, listing_text, member_in, search_spot, Plans, IsPlan, Lists, ended_outcome}
-use Rattle.hap_cli.specs.Refusals.{refusal, cause}
+use Rattle.hap_cli.specs.CoverTexts.{has_several, covers_text, listing_text, member_in, search_spot, Plans, Lists, ended_outcome}
+use Rattle.hap_cli.specs.Refusals.{refusal}
 use Rattle.hap_cli.specs.Ends.{ending_in, EndsOn}
 use Rattle.hap_cli.proofs.Stages.{fails_give}
 use Rattle.hap_cli.proofs.Ends.{within, refused_end}

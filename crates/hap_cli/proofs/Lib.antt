@@ -1,5 +1,6 @@
 mod CoverEnds
 mod Ends
 mod Examples
+mod OneCovers
 mod Stages
 mod Texts

@@ -16,7 +16,7 @@
 --                              not come past it
 --   ListsWhole, ListsPart      the listing may begin, and its text, or less than all of it, was appended
 --   Lists several Ps o write old new outcome   how a listing ends, and what was then appended
-use Rattle.std.specs.Prelude.{◌≡◌, ◌==◌, ◌≤◌, ◌<◌, ◌+◌, ℕ, List, [], ◌++◌, codes, decimal, length, take, map, option_map, Bool, true, false, nat_lt, if◌then◌else◌}
+use Rattle.std.specs.Prelude.{◌≡◌, ◌==◌, ◌≤◌, ◌<◌, ◌+◌, ℕ, List, [], ◌++◌, codes, decimal, length, take, option_map, Bool, true, false, nat_lt, if◌then◌else◌}
 use Rattle.std.specs.List.{flat_map}
 use Rattle.std.specs.declared.option.Option.{Option}
 use Rattle.std.specs.declared.option.Option.TheVariants.{Some, None}
@@ -35,7 +35,7 @@ use Rattle.cover_listing.specs.declared.listing.Ending.{Ending}
 use Rattle.cover_listing.specs.declared.listing.Ending.TheVariants as ending
 use Rattle.hap_words.specs.Asked.{CoversAsked, SearchSpot, spot_of}
 use Rattle.hap_ends.specs.declared.outcome.Outcome.{Outcome}
-use Rattle.hap_ends.specs.declared.outcome.Outcome.TheVariants.{Done, Spent, Usage, Refused, ReadFault, WriteFault, Memory}
+use Rattle.hap_ends.specs.declared.outcome.Outcome.TheVariants.{Done, Spent, Refused, WriteFault, Memory}
 use Rattle.hap_ends.specs.declared.refusal.Refusal.{Refusal}
 use Rattle.hap_ends.specs.declared.refusal.Refusal.TheVariants.{Position}
 use Rattle.hap_ends.specs.Refusals.{bare}

@@ -1,9 +1,11 @@
 -- Meaning for contracts, of `run`: Refusals, Answers (what is written; its end is for the code), GroupTexts (what `group`
--- writes), CoverTexts (what `covers` writes; its end is for the code), Ends (how a run ends), Counting (steps).
+-- writes), CoverTexts (what `covers` writes; its end is for the code), OneCover (what `cover` writes), Ends (how a run ends), Counting
+-- (steps).
 pub mod Refusals
 pub mod Answers
 pub mod GroupTexts
 pub mod CoverTexts
+pub mod OneCover
 pub mod Counting
 pub mod Ends
 pub use Rattle.hap_outside.specs.Causes
@@ -16,3 +18,4 @@ pub use Rattle.cover_laws.specs.Laws
 pub use Rattle.cover_listing.specs.PartCovers
 pub use Rattle.cover_listing.specs.Listings
 pub use Rattle.cover_listing.specs.Events
+pub use Rattle.part_covers.specs.Covered

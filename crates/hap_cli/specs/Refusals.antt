@@ -9,11 +9,11 @@ use Rattle.std.specs.declared.option.Option.{Option}
 use Rattle.std.specs.declared.option.Option.TheVariants.{Some, None}
 use Rattle.face_poset.specs.Poset.{Layers}
 use Rattle.tuple_spaces.specs.Torus.{torus_of}
-use Rattle.hap_words.specs.Asked.{Asked, cells, check, betti, group, covers, make}
+use Rattle.hap_words.specs.Asked.{Asked, cells, check, betti, group, covers, cover, make}
 use Rattle.hap_ends.specs.declared.refusal.Refusal.{Refusal}
 use Rattle.hap_ends.specs.declared.refusal.Refusal.TheVariants.{TooLong}
 use Rattle.hap_inputs.specs.Input.{limit_of}
-use Rattle.hap_inputs.specs.Spaces.{fault_in, space_in, regular_in, few_in, only_few, worded_in, begun_in}
+use Rattle.hap_inputs.specs.Spaces.{fault_in, space_in, regular_in, few_in, only_few, worded_in, begun_in, total_in}
 
 abbrev pub made : (size : ℕ) → (modulus : Option ℕ) → Result Layers Refusal
 made size None = Ok (torus_of size)
@@ -25,6 +25,7 @@ cause (check o) bytes = fault_in (regular_in o.source.kind bytes)
 cause (betti o) bytes = fault_in (few_in o.source.kind bytes)
 cause (group o) bytes = fault_in (worded_in o.source.kind bytes)
 cause (covers o) bytes = fault_in (begun_in o.source.kind bytes o.sheets o.from)
+cause (cover o) bytes = fault_in (total_in o.source.kind bytes o)
 cause (make o) bytes = fault_in (made o.size o.modulus)
 cause other bytes = None
 

@@ -12,6 +12,7 @@ ghost use Rattle.hap_cli.specs.Ends.{writes_while};
 use crate::betti::{answer_betti, write_betti};
 use crate::cells::{answer_cells, write_cells};
 use crate::check::{answer_check, write_check};
+use crate::cover::{ToldCover, answer_cover, write_told_cover};
 use crate::group::{answer_group, write_groups};
 use crate::make::{Summary, answer_make, write_summary};
 use face_poset::Space;
@@ -35,6 +36,8 @@ pub enum Answer {
     Betti(Betti),
     /// The groups of the components of a space.
     Group(Vec<Group>),
+    /// A cover, with the Betti numbers of its total space.
+    Cover(ToldCover),
     /// The boundary lists of a space.
     Boundaries(Space),
     /// What `make` tells of a 3-torus with a modulus.
@@ -60,6 +63,7 @@ pub fn answer_to<L: Ledger>(
         Command::Check(options) => answer_check(alloc, options, bytes),
         Command::Betti(options) => answer_betti(alloc, options, bytes, steps),
         Command::Group(options) => answer_group(alloc, options, bytes),
+        Command::Cover(options) => answer_cover(alloc, options, bytes, steps),
         Command::Make(options) => answer_make(alloc, options, bytes, steps),
         _ => Err(Outcome::Usage),
     }
@@ -75,6 +79,7 @@ pub fn write_answer<K: Sink>(out: &mut K, answer: &Answer) -> Result<(), Failed>
         Answer::Check(space, components) => write_check(out, space, *components),
         Answer::Betti(numbers) => write_betti(out, numbers),
         Answer::Group(groups) => write_groups(out, groups),
+        Answer::Cover(told) => write_told_cover(out, told),
         Answer::Boundaries(space) => space.print(out),
         Answer::Summary(summary) => write_summary(out, summary),
     }

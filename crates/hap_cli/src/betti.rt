@@ -58,8 +58,8 @@ fn regular_betti<L: Ledger>(
     few_betti(alloc, regular.space(), modulus, steps)
 }
 
-// The Betti numbers of the order complex of the space, or how the run ends where it has too many chains.
-fn few_betti<L: Ledger>(
+/// The Betti numbers of the order complex of the space, or how the run ends where it has too many chains.
+pub(crate) fn few_betti<L: Ledger>(
     alloc: Global,
     space: &Space,
     modulus: u8,

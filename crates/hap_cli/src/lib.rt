@@ -8,6 +8,7 @@ mod answer;
 mod betti;
 mod cells;
 mod check;
+mod cover;
 mod covers;
 mod group;
 mod make;

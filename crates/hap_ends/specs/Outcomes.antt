@@ -3,7 +3,7 @@
 --   status_of outcome         the status
 --   line_of outcome           the line for err, and nothing where the run is done
 --   written_outcome answer    how a run ends after its answer was written, or was not
---   text_outcome, space_outcome, array_outcome, regular_outcome, chain_outcome, word_outcome, search_outcome
+--   text_outcome, space_outcome, array_outcome, regular_outcome, chain_outcome, word_outcome, search_outcome, cover_outcome
 --                             how it ends at a fault of these
 --   Fails stage outcome       a stage that gives a value or a refusal refuses for this cause, or memory was wanting
 --   Yields stage result       Ok comes with the value of the stage, and else the stage fails so
@@ -16,7 +16,8 @@ use Rattle.std.specs.Io.KnownBytes.{Appends}
 use Rattle.hap_ends.specs.declared.outcome.Outcome.{Outcome}
 use Rattle.hap_ends.specs.declared.outcome.Outcome.TheVariants.{Done, Spent, Usage, Refused, ReadFault, WriteFault, Memory}
 use Rattle.hap_ends.specs.declared.refusal.Refusal.{Refusal}
-use Rattle.hap_ends.specs.declared.refusal.Refusal.TheVariants.{Text, Space, Array, Irregular, Chains, Word, Position}
+use Rattle.hap_ends.specs.declared.refusal.Refusal.TheVariants.{Text, Space, Array, Irregular, Components, Chains, Word, Position, Index, TotalCells}
+use Rattle.hap_ends.specs.declared.refusal.Refusal.TheVariants as refused
 use Rattle.gap_text.specs.declared.fault.TextFault.{TextFault}
 use Rattle.gap_text.specs.declared.fault.TextFault.TheVariants as in_text
 use Rattle.face_poset.specs.declared.fault.SpaceFault.{SpaceFault}
@@ -31,6 +32,8 @@ use Rattle.edge_words.specs.declared.fault.WordFault.{WordFault}
 use Rattle.edge_words.specs.declared.fault.WordFault.TheVariants as in_words
 use Rattle.cover_search.specs.declared.fault.SearchFault.{SearchFault}
 use Rattle.cover_search.specs.declared.fault.SearchFault.TheVariants as in_search
+use Rattle.part_covers.specs.declared.fault.CoverFault.{CoverFault}
+use Rattle.part_covers.specs.declared.fault.CoverFault.TheVariants as in_covers
 use Rattle.hap_ends.specs.Refusals.{refusal_status, refusal_line, spent_line, bare}
 
 abbrev pub usage_line : List ℕ
@@ -87,6 +90,14 @@ word_outcome (in_words.TooLong cell) = Refused (Word cell)
 abbrev pub search_outcome : SearchFault → Outcome
 search_outcome in_search.Memory = Memory
 search_outcome in_search.BadPosition = Refused Position
+
+abbrev pub cover_outcome : CoverFault → Outcome
+cover_outcome in_covers.Memory = Memory
+cover_outcome (in_covers.Components count) = Refused (Components count)
+cover_outcome (in_covers.Word cell) = Refused (Word cell)
+cover_outcome (in_covers.Spent spot) = Refused (refused.Spent spot)
+cover_outcome (in_covers.Index count) = Refused (Index count)
+cover_outcome in_covers.TotalCells = Refused TotalCells
 
 abbrev pub Fails : {A : Type 0} → Result A Refusal → Outcome → Type 0
 Fails stage (Refused cause) = stage ≡ Err (bare cause)

@@ -7,6 +7,7 @@ use edge_words::WordFault;
 use face_poset::SpaceFault;
 use gap_text::TextFault;
 use order_complex::ChainFault;
+use part_covers::CoverFault;
 use regular_check::RegularFault;
 use std::alloc::AllocError;
 
@@ -104,6 +105,24 @@ impl From<SearchFault> for Outcome {
         match fault {
             SearchFault::BadPosition => Outcome::Refused(Refusal::Position),
             SearchFault::Memory => Outcome::Memory,
+        }
+    }
+}
+
+impl From<CoverFault> for Outcome {
+    ghost use Rattle.std.specs.Prelude.{◌≡◌};
+    ghost use Rattle.hap_ends.specs.Outcomes.{cover_outcome};
+
+    ghost from_gives = { λ fault outcome. outcome ≡ cover_outcome fault };
+
+    fn from(fault: CoverFault) -> Outcome {
+        match fault {
+            CoverFault::Components(count) => Outcome::Refused(Refusal::Components(count)),
+            CoverFault::Word(cell) => Outcome::Refused(Refusal::Word(cell)),
+            CoverFault::Spent(spot) => Outcome::Refused(Refusal::Spent(spot)),
+            CoverFault::Index(count) => Outcome::Refused(Refusal::Index(count)),
+            CoverFault::TotalCells => Outcome::Refused(Refusal::TotalCells),
+            CoverFault::Memory => Outcome::Memory,
         }
     }
 }

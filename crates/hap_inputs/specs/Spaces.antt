@@ -11,10 +11,18 @@
 --                                 of the first: it is the start, or live there
 --   position_in spot              the position of a spot in its component
 --   only_begun n spot stage       after a stage: refused where the listing may not begin at the spot
+--   cover_fault_of, cover_stage_of   a fault of a cover as a refusal, and a stage that gives a cover
+--   only_cover w stage            after a stage: the cover that is wanted of the space, refused where there is no such component, a word
+--                                 of its part is too long, the budget of the search is spent before it is found, there are fewer, or its
+--                                 total space has too many cells, the first of these in this order
+--   only_few_over modulus stage   after a stage that gives a cover: its total space, with a modulus refused where the order complex of that
+--                                 has more chains than are taken
 --   regular_in, few_in, worded_in kind bytes   the space of the bytes after these stages
 --   begun_in kind bytes n spot    the same after the stages of a listing
+--   wanted_by o                   the cover that is asked for
+--   cover_in, total_in kind bytes o   that cover of the space of the bytes, and its total space, after their stages
 --   fault_in stage                the refusal of a stage, if there is one
---   of_value, of_array, of_text, unless_broken, unless_long, is_live_first: steps
+--   of_value, of_array, of_text, unless_broken, unless_long, is_live_first, total_few: steps
 use Rattle.std.specs.Prelude.{ℕ, List, [], ◌∷◌, length, Bool, false, ◌==◌, ◌&&◌, ◌||◌, nat_lt, nat_le, if◌then◌else◌}
 use Rattle.std.specs.declared.result.Result.{Result}
 use Rattle.std.specs.declared.result.Result.TheVariants.{Ok, Err}
@@ -39,10 +47,14 @@ use Rattle.face_poset.specs.declared.cells.Cell.{Cell}
 use Rattle.live_laws.specs.Live.{Relations, Position, is_live}
 use Rattle.part_groups.specs.Groups.{long_word, long_from}
 use Rattle.cover_listing.specs.PartCovers.{relations_from}
-use Rattle.hap_words.specs.Asked.{SearchSpot}
+use Rattle.part_covers.specs.declared.wanted.Wanted.{Wanted}
+use Rattle.part_covers.specs.declared.fault.CoverFault.{CoverFault}
+use Rattle.part_covers.specs.declared.fault.CoverFault.TheVariants as in_covers
+use Rattle.part_covers.specs.Covered.{Covering, covering_in}
+use Rattle.hap_words.specs.Asked.{SearchSpot, CoverAsked}
 use Rattle.hap_ends.specs.declared.refusal.Refusal.{Refusal}
 use Rattle.hap_ends.specs.declared.refusal.Refusal.TheVariants as refused
-use Rattle.hap_ends.specs.declared.refusal.Refusal.TheVariants.{Text, Space, Array, Irregular, Chains, Word}
+use Rattle.hap_ends.specs.declared.refusal.Refusal.TheVariants.{Text, Space, Array, Irregular, Components, Chains, Word, Index, TotalCells}
 
 abbrev pub chain_limit : ℕ
 chain_limit = 700000
@@ -114,6 +126,31 @@ abbrev pub only_begun : (n : ℕ) → SearchSpot → Result Layers Refusal → R
 only_begun n spot (Ok space) = if is_begin (relations_from space spot.0) n (position_in spot) then Ok space else Err refused.Position
 only_begun n spot (Err refusal) = Err refusal
 
+-- want of memory refuses no cover, so that its case is never met
+abbrev pub cover_fault_of : CoverFault → Refusal
+cover_fault_of (in_covers.Components count) = Components count
+cover_fault_of (in_covers.Word cell) = Word cell
+cover_fault_of (in_covers.Spent spot) = refused.Spent spot
+cover_fault_of (in_covers.Index count) = Index count
+cover_fault_of in_covers.TotalCells = TotalCells
+cover_fault_of in_covers.Memory = TotalCells
+
+abbrev pub cover_stage_of : {A : Type 0} → Result A CoverFault → Result A Refusal
+cover_stage_of (Ok cover) = Ok cover
+cover_stage_of (Err fault) = Err (cover_fault_of fault)
+
+abbrev pub only_cover : Wanted → Result Layers Refusal → Result Covering Refusal
+only_cover w (Ok space) = cover_stage_of (covering_in space w)
+only_cover w (Err refusal) = Err refusal
+
+abbrev pub total_few : (modulus : Option ℕ) → (total : Layers) → Result Layers Refusal
+total_few None total = Ok total
+total_few (Some p) total = only_few (Ok total)
+
+abbrev pub only_few_over : (modulus : Option ℕ) → Result Covering Refusal → Result Layers Refusal
+only_few_over modulus (Ok cover) = total_few modulus cover.total
+only_few_over modulus (Err refusal) = Err refusal
+
 abbrev pub regular_in : Kind → List ℕ → Result Layers Refusal
 regular_in kind bytes = only_regular (space_in kind bytes)
 
@@ -125,3 +162,12 @@ worded_in kind bytes = only_worded (regular_in kind bytes)
 
 abbrev pub begun_in : Kind → List ℕ → (n : ℕ) → SearchSpot → Result Layers Refusal
 begun_in kind bytes n spot = only_begun n spot (only_worded_from spot.0 (regular_in kind bytes))
+
+abbrev pub wanted_by : CoverAsked → Wanted
+wanted_by o = record { component = o.component; sheets = o.sheets; index = o.index; budget = o.budget }
+
+abbrev pub cover_in : Kind → List ℕ → CoverAsked → Result Covering Refusal
+cover_in kind bytes o = only_cover (wanted_by o) (regular_in kind bytes)
+
+abbrev pub total_in : Kind → List ℕ → CoverAsked → Result Layers Refusal
+total_in kind bytes o = only_few_over o.modulus (cover_in kind bytes o)

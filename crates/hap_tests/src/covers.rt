@@ -1,11 +1,8 @@
 // The command `covers`.
 use crate::running::expect;
-use crate::worked::{CIRCLE, PLANE, POINT, TORUS, WEDGE};
+use crate::worked::{CIRCLE, CIRCLES, PLANE, POINT, WEDGE};
 use std::process::Abort;
 use std::test::Fail;
-
-/// Two circles that do not meet.
-const CIRCLES: &[u8] = b"[[[1,0],[1,0],[1,0],[1,0]],[[2,1,2],[2,1,2],[2,3,4],[2,3,4]]]";
 
 /// A circle, a graph of two vertices and three edges, and a point, each with vertices between those of the others.
 const BETWEEN: &[u8] =

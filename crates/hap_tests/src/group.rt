@@ -1,14 +1,11 @@
 // The command `group`.
 use crate::running::expect;
-use crate::worked::{CIRCLE, PLANE, POINT, SPHERE, TORUS, WEDGE};
+use crate::worked::{CIRCLE, CIRCLES, PLANE, POINT, SPHERE, TORUS, WEDGE};
 use std::test::Fail;
 
 /// Two vertices, four edges between them and five bigons: a pair is added to its field by a test of paths.
 const BIGONS: &[u8] =
     b"[[[1,0],[1,0]],[[2,1,2],[2,1,2],[2,1,2],[2,1,2]],[[2,2,3],[2,3,4],[2,1,2],[2,1,2],[2,3,4]]]";
-
-/// Two circles that do not meet.
-const CIRCLES: &[u8] = b"[[[1,0],[1,0],[1,0],[1,0]],[[2,1,2],[2,1,2],[2,3,4],[2,3,4]]]";
 
 #[test]
 fn spaces_have_groups(rt: HostRuntime) -> Result<(), Fail> {

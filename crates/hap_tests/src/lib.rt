@@ -14,6 +14,8 @@ mod check;
 #[cfg(test)]
 mod commands;
 #[cfg(test)]
+mod cover;
+#[cfg(test)]
 mod covers;
 #[cfg(test)]
 mod group;

@@ -40,7 +40,7 @@ fn other_words_are_usage(rt: HostRuntime) -> Result<(), Fail> {
         &["migrate", "--in", "x"],
         &["group", "--mod", "2"],
         &["covers", "--sheets", "8", "--from", "0/1:1"],
-        &["cover", "--sheets", "2", "--index", "1", "--component", "2"],
+        &["cover", "--sheets", "2", "--index", "1", "--component", "0"],
         &["report", "--mod", "3", "--sheets", "2"],
         &["cells", "--sheets", "2"],
     ];

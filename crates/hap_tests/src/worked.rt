@@ -6,6 +6,9 @@ pub const POINT: &[u8] = b"[[[1,0]]]";
 /// Two vertices and two edges between them.
 pub const CIRCLE: &[u8] = b"[[[1,0],[1,0]],[[2,1,2],[2,1,2]]]";
 
+/// Two circles that do not meet.
+pub const CIRCLES: &[u8] = b"[[[1,0],[1,0],[1,0],[1,0]],[[2,1,2],[2,1,2],[2,3,4],[2,3,4]]]";
+
 /// Two circles with one vertex in common.
 pub const WEDGE: &[u8] = b"[[[1,0],[1,0],[1,0]],[[2,1,2],[2,1,2],[2,1,3],[2,1,3]]]";
 

@@ -240,6 +240,7 @@ verb_is_built verb.Check = true
 verb_is_built verb.Betti = true
 verb_is_built verb.Group = true
 verb_is_built verb.Covers = true
+verb_is_built verb.Cover = true
 verb_is_built verb.Make = true
 verb_is_built other = false
 

@@ -124,6 +124,12 @@ pub fn is_verb_built(verb: Verb) -> bool
 {
     matches!(
         verb,
-        Verb::Cells | Verb::Check | Verb::Betti | Verb::Group | Verb::Covers | Verb::Make
+        Verb::Cells
+            | Verb::Check
+            | Verb::Betti
+            | Verb::Group
+            | Verb::Covers
+            | Verb::Cover
+            | Verb::Make
     )
 }

@@ -1,5 +1,5 @@
 //! Tests of fields of pairs with more pairs, of chosen fields, of the parts of a space and their groups, of collapses, of
-//! signs, of words and labels, of the laws of covers, of least tables, and of searches for covers.
+//! signs, of words and labels, of the laws of covers, of least tables, of searches for covers, and of total spaces.
 //!
 //! They show what no clause says: that calls succeed where there is memory, and worked examples.
 #![tactic(auto)]
@@ -24,6 +24,8 @@ mod parts;
 mod searches;
 #[cfg(test)]
 mod signs;
+#[cfg(test)]
+mod totals;
 #[cfg(test)]
 mod words;
 #[cfg(test)]

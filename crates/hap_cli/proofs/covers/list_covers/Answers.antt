@@ -1,4 +1,4 @@
-use Rattle.std.proofs.Common.{◌≡◌, List, map, sym, subst}
+use Rattle.std.proofs.Common.{List, map, sym, subst}
 use Rattle.edge_words.specs.Words.{Presented, relations_of}
 use Rattle.hap_outside.specs.Causes.{Rose}
 use Rattle.hap_words.specs.Asked.{covers_of}

@@ -1,4 +1,4 @@
-use Rattle.std.proofs.Common.{◌≡◌, ◌++◌, [], List, ℕ, refl, ap, append-nil, ◌∙◌}
+use Rattle.std.proofs.Common.{◌++◌, [], List, ℕ, refl, ap, append-nil, ◌∙◌}
 use Rattle.std.specs.List.{flat_map}
 use Rattle.hap_outside.proofs.CallerLemmas.{gathers_next, gathers_fail, gathers_break}
 use Rattle.cover_listing.specs.Listings.{listing, spot_in}
