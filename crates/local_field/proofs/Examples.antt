@@ -64,5 +64,5 @@ path = ([] ∷ [] ∷ [] ∷ []) ∷ ((2 ∷ 3 ∷ []) ∷ (1 ∷ 2 ∷ []) ∷ 
 path_flags : flag_cells path 1 ≡ 2 ∷ 1 ∷ []
 path_flags = refl
 
-path_by_places : (flags_of path).space ≡ ([] ∷ [] ∷ [] ∷ []) ∷ ((1 ∷ 2 ∷ []) ∷ (2 ∷ 3 ∷ []) ∷ []) ∷ [] ∷ [] ∷ []
+path_by_places : (flags_of path (λ dim cell facet. false)).space ≡ ([] ∷ [] ∷ [] ∷ []) ∷ ((1 ∷ 2 ∷ []) ∷ (2 ∷ 3 ∷ []) ∷ []) ∷ [] ∷ [] ∷ []
 path_by_places = refl

@@ -22,3 +22,6 @@ mod Layers
 mod Orders
 mod Numberings
 mod Renumbered
+mod SignSums
+mod SignsByPlace
+mod FlagSigns

@@ -17,18 +17,18 @@ module _ (space : List (List (List ℕ))) (valid : IsSpace space) (cells : List 
   abbrev row : ℕ → ℕ → ℕ
   row d p = cell_at_place cells d p
 
-  order : (d : ℕ) → IsOrderOf (length (cells_at cells d)) (cells_at cells d) (cells_at h.places d)
+  pub order : (d : ℕ) → IsOrderOf (length (cells_at cells d)) (cells_at cells d) (cells_at h.places d)
   order d = h.order.order d
 
   pub place-range : (d p : ℕ) → p ≤ count space d → p ≤ length (cells_at cells d)
   place-range d p l = omega (arith, l, h.counts d)
 
   -- one place a cell
-  place-once : (d p q : ℕ) → 1 ≤ p → p ≤ size d → 1 ≤ q → q ≤ size d → row d p ≡ row d q → p ≡ q
+  pub place-once : (d p q : ℕ) → 1 ≤ p → p ≤ size d → 1 ≤ q → q ≤ size d → row d p ≡ row d q → p ≡ q
   place-once d p q a b e f s = sym ((order d).back p a b) ∙ (ap (λ (k : ℕ). get_or (cells_at h.places d) (k - 1) 0) s ∙ (order d).back q e f)
 
   -- the place of a cell
-  place-of : (d c : ℕ) → 1 ≤ c → c ≤ size d → (p : ℕ) × (1 ≤ p) × (p ≤ size d) × (row d p ≡ c)
+  pub place-of : (d c : ℕ) → 1 ≤ c → c ≤ size d → (p : ℕ) × (1 ≤ p) × (p ≤ size d) × (row d p ≡ c)
   place-of d c low high = let w = (order d).place c low high in (get_or (cells_at h.places d) (c - 1) 0, w.0, w.1, (order d).cell c low high)
 
   -- the facets of the cell at a place are there
@@ -144,5 +144,7 @@ module _ (space : List (List (List ℕ))) (valid : IsSpace space) (cells : List 
       ap (λ (x : List (List ℕ)). x ∷ e ∷ d ∷ s ∷ []) (a ∙ ap none (k ∙ sym (h.counts 0)))
       ∙ (ap (λ (x : List (List ℕ)). none (size 0) ∷ x ∷ d ∷ s ∷ []) b ∙ (ap (λ (x : List (List ℕ)). none (size 0) ∷ facets_by_place space cells 1 ∷ x ∷ s ∷ []) f ∙ ap (λ (x : List (List ℕ)). none (size 0) ∷ facets_by_place space cells 1 ∷ facets_by_place space cells 2 ∷ x ∷ []) g))
 
-pub flags-same : (a b : FlagCells) → a.cells ≡ b.cells → a.space ≡ b.space → a ≡ b
-flags-same a b e f = ap (λ (cs : List (List ℕ)). record { cells = cs; space = a.space }) e ∙ ap (λ (s : List (List (List ℕ))). record { cells = b.cells; space = s }) f
+pub flags-same : (a b : FlagCells) → a.cells ≡ b.cells → a.space ≡ b.space → a.minus ≡ b.minus → a ≡ b
+flags-same a b e f g =
+    ap (λ (cs : List (List ℕ)). record { cells = cs; space = a.space; minus = a.minus }) e
+    ∙ (ap (λ (s : List (List (List ℕ))). record { cells = b.cells; space = s; minus = a.minus }) f ∙ ap (λ (s : List (List (List ℕ))). record { cells = b.cells; space = b.space; minus = s }) g)

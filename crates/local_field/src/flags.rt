@@ -1,19 +1,23 @@
 ghost use Rattle.std.specs.Prelude.{◌≡◌, ◌≤◌, [], map, IfOk};
 ghost use Rattle.number_lists.specs.Words.{upto};
-ghost use Rattle.face_poset.specs.Poset.{count, IsSpace};
-ghost use Rattle.local_field.specs.Flags.{cell_at_place, flags_of, HaveCells};
+ghost use Rattle.face_poset.specs.Poset.{count, facets_of, IsSpace};
+ghost use Rattle.face_poset.specs.Signs.{SignsCancel};
+ghost use Rattle.std.specs.List.Sorted.{IsStrictlyIncreasing};
+ghost use Rattle.local_field.specs.Flags.{cell_at_place, flags_of, minus_of, negative_in, renumbered, HaveCells};
+ghost use Rattle.local_field.specs.Flags.{IsOf, Rise};
 
+use crate::flag_signs::{ask_signs, flag_signs, minus_by_place, point_signs, stands};
 use crate::numbering::Numbering;
 use crate::renumbering::facets_by_place;
-use face_poset::Graded;
+use face_poset::{Graded, Signed};
 use number_lists::{Lists, cofaces_in};
 use order_complex::Chains;
 use std::alloc::{AllocError, Global};
 use std::marker::Model;
 
 /// The cells of a space numbered anew, in each dimension by the numbers of their flags among the chains, as
-/// a graded set. Contracts see the cells in the order of their new numbers, their places, and the facets by
-/// places.
+/// a graded set with signs. Contracts see the cells in the order of their new numbers, their places, the
+/// facets by places, and those that have the sign -1.
 ///
 /// So the cell at a place is the last one of the chain that stands at this place among those that the pairs
 /// inside all cells leave over.
@@ -22,6 +26,7 @@ pub struct Flags {
     numbering: Numbering,
     facets: [Lists; 4],
     cofaces: [Lists; 4],
+    minus: [Lists; 4],
 }
 
 impl Model for Flags {
@@ -29,40 +34,50 @@ impl Model for Flags {
 
     ghost Value = { FlagCells };
 
-    ghost view = { λ s. record { cells = s.numbering; space = s.facets } };
+    ghost view = { λ s. record { cells = s.numbering; space = s.facets; minus = s.minus } };
 
-    ghost invariant = { λ s. AreFlags s.numbering s.facets s.cofaces };
+    ghost invariant = { λ s. AreFlags s.numbering s.facets s.cofaces s.minus };
 }
 
 impl Flags {
-    /// The cells of the space by the numbers of their flags.
-    pub fn new<G: Graded>(
+    /// The cells by the numbers of their flags.
+    ///
+    /// The sign of a flag is the product of the signs of its steps. The sign of a facet in a cell of dimension
+    /// d is (-1)^d times its sign there times the signs of both flags.
+    pub fn new<S: Signed>(
         alloc: Global,
         chains: &Chains<'_>,
-        graded: &G,
+        signed: &S,
     ) -> Result<Flags, AllocError>
-        requires { chains.now ≡ G.space graded.now }
-        ensures { IfOk result (λ flags. flags ≡ flags_of (G.space graded.now)) }
+        requires { chains.now ≡ S.space signed.now }
+        ensures { IfOk result (λ flags. flags ≡ flags_of (S.space signed.now) (S.negative signed.now)) }
     {
-        let numbering = Numbering::new(alloc, chains, graded)?;
-        let vertices = empty_lists(alloc, graded.cells(0))?;
-        let edges = facets_by_place(alloc, graded, &numbering, 1)?;
-        let disks = facets_by_place(alloc, graded, &numbering, 2)?;
-        let solids = facets_by_place(alloc, graded, &numbering, 3)?;
-        let flags = Flags::from_layers(alloc, numbering, [vertices, edges, disks, solids])?;
+        ask_signs(signed);
+        let numbering = Numbering::new(alloc, chains, signed)?;
+        let vertices = empty_lists(alloc, signed.cells(0))?;
+        let edges = facets_by_place(alloc, signed, &numbering, 1)?;
+        let disks = facets_by_place(alloc, signed, &numbering, 2)?;
+        let solids = facets_by_place(alloc, signed, &numbering, 3)?;
+        let facets = [vertices, edges, disks, solids];
+        let minus = minus_layers(alloc, signed, &numbering, &facets)?;
+        let flags = Flags::from_layers(alloc, numbering, facets, minus)?;
         Ok(flags)
     }
 
-    /// The cells with these facets by places.
+    /// The cells with these facets by places, of which those have the sign -1.
     fn from_layers(
         alloc: Global,
         numbering: Numbering,
         facets: [Lists; 4],
+        minus: [Lists; 4],
     ) -> Result<Flags, AllocError>
         requires valid { IsSpace facets }
         requires counts { HaveCells numbering facets }
+        requires cancel { SignsCancel facets (negative_in minus) }
+        requires rise { Rise minus }
         ensures cells { IfOk result (λ flags. flags.cells ≡ numbering) }
         ensures space { IfOk result (λ flags. flags.space ≡ facets) }
+        ensures minus { IfOk result (λ flags. flags.minus ≡ minus) }
     {
         let above_vertices = cofaces_in(alloc, facets[0].len(), &facets[1])?;
         let above_edges = cofaces_in(alloc, facets[1].len(), &facets[2])?;
@@ -72,7 +87,24 @@ impl Flags {
             numbering,
             facets,
             cofaces: [above_vertices, above_edges, above_disks, above_solids],
+            minus,
         })
+    }
+
+    /// The places of the facets with the sign -1 of the cell at a place, in increasing order.
+    fn minus(&self, dim: u8, cell: u32) -> &[u32]
+        requires first { 1 ≤ cell }
+        requires last { cell ≤ count self.now.space dim }
+        ensures minus { result.now ≡ facets_of self.now.minus dim cell }
+        ensures rises { IsStrictlyIncreasing result.now }
+        ensures law { SignsCancel self.now.space (negative_in self.now.minus) }
+    {
+        let layer = &self.minus[dim as usize];
+        if cell as usize <= layer.len() {
+            layer.get(cell as usize - 1)
+        } else {
+            &[]
+        }
     }
 
     /// The cell at a place, both counted from 1.
@@ -119,6 +151,40 @@ impl Graded for Flags {
         let layer = &self.cofaces[dim as usize];
         layer.get(cell as usize - 1)
     }
+}
+
+impl Signed for Flags {
+    ghost negative = { λ s dim cell facet. negative_in s.minus dim cell facet };
+
+    fn sign(&self, dim: u8, cell: u32, facet: u32) -> i8 {
+        if stands(self.minus(dim, cell), facet) {
+            -1
+        } else {
+            1
+        }
+    }
+}
+
+/// For each place of each dimension the places of the facets with the sign -1.
+fn minus_layers<S: Signed>(
+    alloc: Global,
+    signed: &S,
+    numbering: &Numbering,
+    facets: &[Lists; 4],
+) -> Result<[Lists; 4], AllocError>
+    requires cells { IsOf (S.space signed.now) numbering.now }
+    requires facets { facets.now ≡ renumbered (S.space signed.now) numbering.now }
+    ensures { IfOk result
+        (λ minus. minus ≡ minus_of (S.space signed.now) (S.negative signed.now) numbering.now) }
+{
+    let points = point_signs(alloc, signed)?;
+    let lines = flag_signs(alloc, signed, 1, &points)?;
+    let planes = flag_signs(alloc, signed, 2, &lines)?;
+    let rooms = flag_signs(alloc, signed, 3, &planes)?;
+    let edges = minus_by_place(alloc, signed, numbering, 1, &facets[1], &lines, &points)?;
+    let disks = minus_by_place(alloc, signed, numbering, 2, &facets[2], &planes, &lines)?;
+    let solids = minus_by_place(alloc, signed, numbering, 3, &facets[3], &rooms, &planes)?;
+    Ok([Lists::new(alloc), edges, disks, solids])
 }
 
 /// So many empty lists.

@@ -4,6 +4,7 @@
 mod building;
 mod cell_ids;
 mod field;
+mod flag_signs;
 mod flags;
 mod inside;
 mod laws;
