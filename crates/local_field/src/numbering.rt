@@ -4,7 +4,8 @@ ghost use Rattle.std.specs.List.Sorted.{IsStrictlyIncreasing};
 ghost use Rattle.order_complex.specs.Chains.{chains_of};
 ghost use Rattle.local_field.specs.Numbered.{flag_numbers};
 ghost use Rattle.sphere_collapses.specs.Places.{ArePlaces};
-ghost use Rattle.local_field.specs.Flags.{top_number, flag_cells, all_flag_cells, cells_at, cell_at_place, IsOf, IsOrderPut};
+ghost use Rattle.local_field.specs.Flags.{top_number, flag_cells, all_flag_cells};
+ghost use Rattle.local_field.specs.Flags.{cells_at, cell_at_place, IsOf, IsOrderPut};
 
 use crate::cell_ids::flag_of;
 use crate::inside::number_under;
