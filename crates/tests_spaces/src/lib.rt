@@ -6,6 +6,8 @@
 #[cfg(test)]
 mod arrays;
 #[cfg(test)]
+mod complexes;
+#[cfg(test)]
 mod pairs;
 #[cfg(test)]
 mod regular;
