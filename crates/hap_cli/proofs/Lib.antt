@@ -1,6 +1,5 @@
 mod CoverEnds
 mod Ends
 mod Examples
-mod OneCovers
 mod Stages
 mod Texts
