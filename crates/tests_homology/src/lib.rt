@@ -7,6 +7,8 @@
 #[cfg(test)]
 mod chains;
 #[cfg(test)]
+mod classes;
+#[cfg(test)]
 mod critical;
 #[cfg(test)]
 mod laws;
