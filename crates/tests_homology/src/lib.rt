@@ -11,6 +11,8 @@ mod classes;
 #[cfg(test)]
 mod critical;
 #[cfg(test)]
+mod flags;
+#[cfg(test)]
 mod laws;
 #[cfg(test)]
 mod numbers;
