@@ -19,12 +19,14 @@
 --   fault_in vs                  the first fault of these lists
 --   unless_fault fault a         what was read, where there is no fault
 --   rows_of v                    the lists of labels that a value is, or its first fault
-use Rattle.std.specs.Prelude.{ℕ, ◌==◌, List, [], ◌∷◌, ◌++◌, if◌then◌else◌, Option, Some, None, option_map, Result, Ok, Err}
+--   IsFirst first fault          the fault is this first one, or memory was wanting
+--   HasFault wanted fault        the fault is that of what is wanted, or memory was wanting
+use Rattle.std.specs.Prelude.{ℕ, ◌≡◌, ◌≢◌, ◌==◌, List, [], ◌∷◌, ◌++◌, if◌then◌else◌, Option, Some, None, option_map, Result, Ok, Err}
 use Rattle.std.specs.List.{flat_map}
 use Rattle.number_lists.specs.Words.{holds}
 use Rattle.gap_text.specs.Value.{Value, number, list, items}
 use Rattle.facet_reader.specs.declared.fault.FacetFault.{FacetFault}
-use Rattle.facet_reader.specs.declared.fault.FacetFault.TheVariants.{Shape, Empty, BadLabel, Repeated}
+use Rattle.facet_reader.specs.declared.fault.FacetFault.TheVariants.{Shape, Empty, BadLabel, Repeated, Memory}
 
 abbrev pub or_else : {A : Type 0} → (first next : Option A) → Option A
 or_else None next = next
@@ -89,3 +91,11 @@ unless_fault (Some fault) a = Err fault
 abbrev pub rows_of : Value → Result (List (List ℕ)) FacetFault
 rows_of (number p n) = Err (Shape p)
 rows_of (list p vs) = unless_fault (fault_in (items vs)) (rows_in (items vs))
+
+-- ---- what is answered
+
+abbrev pub IsFirst : Option FacetFault → FacetFault → Type 0
+IsFirst first fault = fault ≢ Memory → first ≡ Some fault
+
+abbrev pub HasFault : {A : Type 0} → Result A FacetFault → FacetFault → Type 0
+HasFault wanted fault = fault ≢ Memory → wanted ≡ Err fault

@@ -5,11 +5,13 @@
 --   Adds made old new           the list has these as well, and no others
 --   IsCrowded made old          each list that has all of both has more than 60,000 elements
 --   facets_at size below place  the numbers of the facets of the set of a size at a place, among those whose places are below
+--   layer_at size below cells   so for each of these sets
+--   IsRepeat rows index         the list at an index, counted from 0, is the one before it again
 --   AreHeld size below cells    places of sets of a size, and of one less, of which the facets of the first are
 --   AreSets n test edges triangles solids   the places of the cells of dimensions 1 to 3 of a test, of which each part of a cell is a cell
 --   IsComplex n edges triangles solids      they are so for some test
 --   made_by size high row       the places of the choices of a size, after others with the place high
-use Rattle.std.specs.Prelude.{ℕ, zero, suc, ◌+◌, ◌*◌, ◌/◌, ◌%◌, ◌^◌, ◌-◌, ◌<◌, ◌≤◌, ◌≡◌, ◌⊎◌, List, [], ◌∷◌, length, map, All, Bool, true}
+use Rattle.std.specs.Prelude.{ℕ, zero, suc, ◌+◌, ◌*◌, ◌/◌, ◌%◌, ◌^◌, ◌-◌, ◌<◌, ◌≤◌, ◌≡◌, ◌⊎◌, List, [], ◌∷◌, length, map, slice_index_or, All, Bool, true}
 use Rattle.number_lists.specs.Members.{In}
 use Rattle.number_lists.specs.Cofaces.{IsRising}
 use Rattle.tuple_spaces.specs.Tuples.{numbers_in}
@@ -39,6 +41,12 @@ made_by size high row = map (λ s. high * 65536 ^ size + place_of s) (choices si
 
 abbrev pub facets_at : (size : ℕ) → (below : List ℕ) → (place : ℕ) → List ℕ
 facets_at size below place = numbers_in (map (members (size - 1)) below) (leave_one (members size place))
+
+abbrev pub layer_at : (size : ℕ) → (below cells : List ℕ) → List (List ℕ)
+layer_at size below cells = map (facets_at size below) cells
+
+abbrev pub IsRepeat : List (List ℕ) → (index : ℕ) → Type 0
+IsRepeat rows index = (1 ≤ index) × (slice_index_or rows index [] ≡ slice_index_or rows (index - 1) [])
 
 pub record AreHeld (size : ℕ) (below cells : List ℕ) : Type 0 where
   pub below_fit : (q : ℕ) → In q below → q < 65536 ^ (size - 1)

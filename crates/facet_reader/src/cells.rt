@@ -8,7 +8,7 @@ ghost use Rattle.number_lists.specs.Members.{In};
 ghost use Rattle.face_poset.specs.Poset.{count};
 ghost use Rattle.facet_reader.specs.SetSpaces.{leave_one, sets_of, set_space};
 ghost use Rattle.facet_reader.specs.Simplices.{number_in};
-ghost use Rattle.facet_reader.specs.Places.{place_of, members, facets_at, AreHeld, AreSets, IsComplex};
+ghost use Rattle.facet_reader.specs.Places.{place_of, members, facets_at, layer_at, AreHeld, AreSets, IsComplex};
 
 use crate::vertices::number_of;
 use face_poset::{Builder, Space};
@@ -79,7 +79,7 @@ fn add_cells(
     requires layers { length builder.old ≡ 4 }
     requires below { count builder.old (size - 2) ≡ length below.now }
     requires empty { (above : ℕ) → size - 1 ≤ above → count builder.old above ≡ 0 }
-    ensures { OnOk result (builder.new ≡ slice_set builder.old (size - 1) (map (facets_at size below.now) cells.now)) }
+    ensures { OnOk result (builder.new ≡ slice_set builder.old (size - 1) (layer_at size below.now cells.now)) }
 {
     for place in cells {
         list_facets(*place, size, below, facets)?;

@@ -1,7 +1,7 @@
-ghost use Rattle.std.specs.Prelude.{◌≡◌, ◌≢◌, IfOk, IfErr, OnOk, Ok, Err, None, Some, []};
+ghost use Rattle.std.specs.Prelude.{◌≡◌, IfOk, IfErr, OnOk, Ok, None, []};
 ghost use Rattle.gap_text.specs.Nest.{view};
 ghost use Rattle.facet_reader.specs.Labels.{row_shape, unless_empty, shape_in, labels_in, labels_fault, first_some};
-ghost use Rattle.facet_reader.specs.Labels.{row_fault, rows_in, rows_of};
+ghost use Rattle.facet_reader.specs.Labels.{row_fault, rows_in, rows_of, IsFirst, HasFault};
 
 use crate::fault::FacetFault;
 use gap_text::{Items, Nest};
@@ -18,7 +18,7 @@ use std::collections::BTreeSet;
 pub(crate) fn read_rows(alloc: Global, nest: &Nest) -> Result<Lists, FacetFault>
     ensures rows { IfOk result (λ rows. rows_of (view nest.now) ≡ Ok rows) }
     // Want of memory may be answered to any nest.
-    ensures fault { IfErr result (λ fault. fault ≢ FacetFault.Memory → rows_of (view nest.now) ≡ Err fault) }
+    ensures fault { IfErr result (HasFault (rows_of (view nest.now))) }
 {
     match nest {
         Nest::Number { place, .. } => Err(FacetFault::Shape(*place)),
@@ -76,7 +76,7 @@ fn find_list(place: u32, items: &Items) -> Option<u32>
 fn list_rows(alloc: Global, items: &Items) -> Result<Lists, FacetFault>
     ensures ok { OnOk result (first_some row_fault items.now ≡ None) }
     ensures rows { IfOk result (λ rows. rows ≡ rows_in items.now) }
-    ensures err { IfErr result (λ fault. fault ≢ FacetFault.Memory → first_some row_fault items.now ≡ Some fault) }
+    ensures err { IfErr result (IsFirst (first_some row_fault items.now)) }
 {
     let mut rows = Lists::new(alloc);
     let mut row = Vec::new(alloc);
@@ -94,7 +94,7 @@ fn list_rows(alloc: Global, items: &Items) -> Result<Lists, FacetFault>
 fn read_row(alloc: Global, items: &Items, row: &mut Vec<u32>) -> Result<(), FacetFault>
     ensures ok { OnOk result (labels_fault [] items.now ≡ None) }
     ensures row { OnOk result (row.new.items ≡ labels_in items.now) }
-    ensures err { IfErr result (λ fault. fault ≢ FacetFault.Memory → labels_fault [] items.now ≡ Some fault) }
+    ensures err { IfErr result (IsFirst (labels_fault [] items.now)) }
 {
     row.clear();
     let mut seen = BTreeSet::new(alloc);

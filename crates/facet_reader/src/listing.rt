@@ -1,10 +1,10 @@
 // The places of the sets that lie together in lists.
 ghost use Rattle.std.specs.Prelude.{◌≡◌, ◌≢◌, ◌≤◌, ◌<◌, ◌+◌, ◌-◌, ◌*◌, ◌^◌, ◌∷◌, [], ℕ};
-ghost use Rattle.std.specs.Prelude.{length, map, slice_index_or, true, All, Contains, IfOk, IfErr, OnOk};
+ghost use Rattle.std.specs.Prelude.{length, map, true, All, Contains, IfOk, IfErr, OnOk};
 ghost use Rattle.std.specs.List.Sorted.{IsStrictlyIncreasing};
 ghost use Rattle.facet_reader.specs.SetSpaces.{sets_of};
 ghost use Rattle.facet_reader.specs.Simplices.{is_face};
-ghost use Rattle.facet_reader.specs.Places.{place_of, AreRows, Adds, IsCrowded, made_by};
+ghost use Rattle.facet_reader.specs.Places.{place_of, AreRows, Adds, IsCrowded, IsRepeat, made_by};
 
 use crate::fault::FacetFault;
 use number_lists::{Lists, sort_indexes_once};
@@ -47,7 +47,7 @@ pub(crate) fn list_sets(alloc: Global, rows: &Lists, size: u32) -> Result<Vec<us
 /// Whether a list is the one before it again.
 fn is_repeated(rows: &Lists, index: usize) -> bool
     requires { index < length rows.now }
-    ensures { result ≡ true → (1 ≤ index) × (slice_index_or rows.now index [] ≡ slice_index_or rows.now (index - 1) []) }
+    ensures { result ≡ true → IsRepeat rows.now index }
 {
     index > 0 && *rows.get(index) == *rows.get(index - 1)
 }

@@ -1,6 +1,7 @@
-ghost use Rattle.std.specs.Prelude.{◌≡◌, ◌≢◌, IfOk, IfErr, Ok, Err};
+ghost use Rattle.std.specs.Prelude.{◌≡◌, IfOk, IfErr, Ok};
 ghost use Rattle.gap_text.specs.Nest.{view};
 ghost use Rattle.regular_check.specs.Rules.{IsRegular};
+ghost use Rattle.facet_reader.specs.Labels.{HasFault};
 ghost use Rattle.facet_reader.specs.Simplices.{simplices_of};
 
 use crate::cells::build;
@@ -29,7 +30,7 @@ pub fn simplices(alloc: Global, nest: &Nest) -> Result<Space, FacetFault>
     ensures space { IfOk result (λ space. simplices_of (view nest.now) ≡ Ok space) }
     ensures regular { IfOk result IsRegular }
     // Want of memory may be answered to any nest.
-    ensures fault { IfErr result (λ fault. fault ≢ FacetFault.Memory → simplices_of (view nest.now) ≡ Err fault) }
+    ensures fault { IfErr result (HasFault (simplices_of (view nest.now))) }
 {
     set_spaces_are_regular();
     let labels = read_rows(alloc, nest)?;
