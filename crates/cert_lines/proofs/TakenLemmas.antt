@@ -1,6 +1,5 @@
 -- A line that is taken by its kind, and the numbers of a line of a kind.
 use Rattle.std.proofs.Common.{◌≡◌, ◌≢◌, inl, inr, ℕ, Bool, true, false, cond, Option, Some, None, List, refl, sym, ◌∙◌, ap, Result, Ok, Err}
-use Rattle.std.specs.Prelude.{slice_index_or}
 use Rattle.std.proofs.lemmas.Bool.{false≢true}
 use Rattle.certificates.specs.declared.kind.Kind.{Kind}
 use Rattle.certificates.specs.declared.kind.Kind.TheVariants as kind
@@ -12,7 +11,7 @@ use Rattle.cert_lines.specs.declared.kind.LineKind.TheVariants as line_kind
 use Rattle.cert_lines.specs.Kinds.{kind_of}
 use Rattle.cert_lines.specs.Listed.{numbers_in}
 use Rattle.cert_lines.specs.declared.fault.CertFault.{CertFault}
-use Rattle.cert_lines.specs.Readers.{Left, Answer, and_then, next_form, in_range, chosen, take_line}
+use Rattle.cert_lines.specs.Readers.{Left, and_then, next_form, in_range, chosen, take_line}
 use Rattle.cert_lines.specs.Taken.{IsTaken, IsRefused, four_of, same_kind, numbers_if, any}
 use Rattle.cert_lines.proofs.WordLemmas.{numbers-told}
 

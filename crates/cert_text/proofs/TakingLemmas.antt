@@ -1,27 +1,20 @@
 -- A line that was taken by its kind is the line that the definition takes.
-use Rattle.std.proofs.Common.{eqb, ◌||◌, ◌≡◌, ◌≢◌, inl, inr, ℕ, Bool, true, false, cond, Option, Some, None, List, refl, sym, ◌∙◌, ap, subst, Result, Ok, Err}
+use Rattle.std.proofs.Common.{eqb, ◌||◌, ◌≡◌, ◌≢◌, ℕ, Bool, true, false, cond, Option, Some, None, List, refl, sym, ◌∙◌, ap, subst, Result, Ok, Err}
 use Rattle.std.specs.Option.{option_map}
 use Rattle.std.specs.Prelude.{slice_index_or}
-use Rattle.std.proofs.lemmas.Bool.{false≢true}
 use Rattle.std.proofs.lemmas.Option.{same_Some}
 use Rattle.certificates.specs.declared.kind.Kind.{Kind}
 use Rattle.certificates.specs.declared.kind.Kind.TheVariants as kind
 use Rattle.certificates.specs.Plain.{Plain, parts}
 use Rattle.certificates.specs.Plain as p
-use Rattle.certificates.specs.Placed as q
-use Rattle.certificates.specs.Forms.{Form, plain, placed}
-use Rattle.cert_lines.specs.declared.kind.LineKind.{LineKind}
-use Rattle.cert_lines.specs.declared.kind.LineKind.TheVariants as line_kind
-use Rattle.cert_lines.specs.Kinds.{kind_of}
-use Rattle.cert_lines.specs.Listed.{numbers_in}
-use Rattle.cert_lines.proofs.CallerLemmas.{numbers-told}
+use Rattle.certificates.specs.Forms.{Form, plain}
 use Rattle.cert_lines.specs.declared.fault.CertFault.{CertFault}
 use Rattle.cert_lines.specs.declared.fault.CertFault.TheVariants.{WrongOrder, OutOfRange, BadVersion, Memory}
 use Rattle.cert_lines.specs.Readers.{Left, Answer, and_then, next_form, in_range, chosen, take_line}
 use Rattle.cert_text.specs.Picks.{pick_modulus, pick_cells, pick_chains}
 use Rattle.cert_text.specs.Reading.{versioned, read_version}
-use Rattle.cert_lines.specs.Taken.{Reads, IsTaken, IsRefused, four_of, same_kind, numbers_if, any}
-use Rattle.cert_text.proofs.Equivalents.{then_ok, same_Ok}
+use Rattle.cert_lines.specs.Taken.{Reads, numbers_if, any}
+use Rattle.cert_text.proofs.Equivalents.{same_Ok}
 
 -- ---- a line of numbers, by what is picked of them
 
