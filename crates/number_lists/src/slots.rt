@@ -1,20 +1,20 @@
 ghost use Rattle.std.specs.Prelude.{◌≡◌, ◌∷◌, ◌++◌, ◌<◌, [], length, map, slice_index, slice_index_or, slice_set, IfOk};
 ghost use Rattle.number_lists.specs.Rooms.{HasRoom};
 
-use crate::lists::Lists;
+use crate::lists::{Lists, end_after};
 use std::alloc::{AllocError, Global};
 use std::marker::Model;
 
 /// Lists of numbers that each have a room of their own, so that entries come to them in any order.
 #[derive(Drop)]
 pub struct Slots {
-    ends: Vec<usize>,
-    nexts: Vec<usize>,
+    ends: Vec<u32>,
+    nexts: Vec<u32>,
     entries: Vec<u32>,
 }
 
 impl Model for Slots {
-    ghost use Rattle.std.specs.Prelude.{length};
+    ghost use Rattle.std.specs.Prelude.{length, ◌≤◌};
     ghost use Rattle.number_lists.specs.Rooms.{Filling, filled, widths, IsFilled};
 
     ghost Value = { Filling };
@@ -24,7 +24,8 @@ impl Model for Slots {
       parts = filled 0 s.ends.items s.nexts.items s.entries.items;
     } };
 
-    ghost invariant = { λ s. IsFilled 0 s.ends.items s.nexts.items (length s.entries.items) };
+    ghost invariant = { λ s. IsFilled 0 s.ends.items s.nexts.items (length s.entries.items)
+        × (length s.entries.items ≤ 4294967295) };
 }
 
 impl Slots {
@@ -35,13 +36,13 @@ impl Slots {
     {
         let mut ends = Vec::new(alloc);
         let mut nexts = Vec::new(alloc);
-        let mut total = 0usize;
+        let mut total = 0u32;
         for room in rooms {
             nexts.push(total)?;
-            total = total.checked_add(*room).ok_or(AllocError)?;
+            total = end_after(total as usize, *room)?;
             ends.push(total)?;
         }
-        let entries = vec![in alloc; 0u32; total]?;
+        let entries = vec![in alloc; 0u32; total as usize]?;
         Ok(Slots {
             ends,
             nexts,
@@ -57,7 +58,7 @@ impl Slots {
             (slice_index_or self.old.parts index [] ++ value ∷ []) }
     {
         let at = self.nexts[index];
-        self.entries[at] = value;
+        self.entries[at as usize] = value;
         self.nexts[index] = at + 1;
     }
 

@@ -9,8 +9,8 @@ entries_are c = c.in_ok-extend_from_slice.ensures.items
 ends_are : (c : goal.In_ok-push) → c.push.new.self.items ≡ c.self.inside.ends.items ++ length (c.self.inside.entries.items ++ c.args.list.now) ∷ []
 ends_are c =
     let a : c.reserve.new.self.items ≡ c.self.inside.ends.items = c.in_ok-reserve.ensures.items in
-    let n : c.len.result ≡ length (c.self.inside.entries.items ++ c.args.list.now) = c.len.ensures ∙ (c.extend_from_slice.new.self.ok.0 ∙ ap length (entries_are c)) in
-    c.in_ok-push.ensures.items ∙ (ap (λ (xs : List ℕ). xs ++ c.len.result ∷ []) a ∙ ap (λ (m : ℕ). c.self.inside.ends.items ++ m ∷ []) n)
+    let n : c.in_ok-end.end ≡ length (c.self.inside.entries.items ++ c.args.list.now) = omega (arith, c.in_ok-end.ensures, c.len.ensures, c.self.inside.entries.ok.0, length-append c.self.inside.entries.items c.args.list.now) in
+    c.in_ok-push.ensures.items ∙ (ap (λ (xs : List ℕ). xs ++ c.in_ok-end.end ∷ []) a ∙ ap (λ (m : ℕ). c.self.inside.ends.items ++ m ∷ []) n)
 
 pub invariant_of-self-2 : goal.invariant_of-self-2
 invariant_of-self-2 c =

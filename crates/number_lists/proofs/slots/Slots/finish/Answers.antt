@@ -11,7 +11,7 @@ parts_are f ends nexts xs e h full =
     filled-full 0 ends nexts xs h same ∙ ap (λ (g : Filling). g.parts) e
 
 pub from_parts-requires : goal.from_parts-requires
-from_parts-requires c = IsCut-filled 0 c.self.inside.ends.items c.self.inside.nexts.items (length c.self.inside.entries.items) c.self.invariant
+from_parts-requires c = IsCut-filled 0 c.self.inside.ends.items c.self.inside.nexts.items (length c.self.inside.entries.items) c.self.invariant.0
 
 pub returns : goal.returns
-returns c = c.from_parts.ensures ∙ parts_are c.args.self c.self.inside.ends.items c.self.inside.nexts.items c.self.inside.entries.items c.self.view_is c.self.invariant c.requires
+returns c = c.from_parts.ensures ∙ parts_are c.args.self c.self.inside.ends.items c.self.inside.nexts.items c.self.inside.entries.items c.self.view_is c.self.invariant.0 c.requires

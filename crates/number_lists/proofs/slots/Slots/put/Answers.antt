@@ -37,34 +37,36 @@ read_at nexts i at l e = e ∙ get_or_default nexts i at 0 l
 
 pub index-at-requires : goal.index-at-requires
 index-at-requires c =
-    let w : (c.args.index < length c.self.inside.nexts.items) × (get_or c.self.inside.nexts.items c.args.index 0 < length c.self.inside.entries.items) = within c.args.self.now c.self.inside.ends.items c.self.inside.nexts.items c.self.inside.entries.items c.args.index c.self.view_is c.self.invariant c.requires.room in
+    let w : (c.args.index < length c.self.inside.nexts.items) × (get_or c.self.inside.nexts.items c.args.index 0 < length c.self.inside.entries.items) = within c.args.self.now c.self.inside.ends.items c.self.inside.nexts.items c.self.inside.entries.items c.args.index c.self.view_is c.self.invariant.0 c.requires.room in
     omega arith
 
 pub index_mut-requires : goal.index_mut-requires
 index_mut-requires c =
-    let w : (c.args.index < length c.self.inside.nexts.items) × (get_or c.self.inside.nexts.items c.args.index 0 < length c.self.inside.entries.items) = within c.args.self.now c.self.inside.ends.items c.self.inside.nexts.items c.self.inside.entries.items c.args.index c.self.view_is c.self.invariant c.requires.room in
+    let w : (c.args.index < length c.self.inside.nexts.items) × (get_or c.self.inside.nexts.items c.args.index 0 < length c.self.inside.entries.items) = within c.args.self.now c.self.inside.ends.items c.self.inside.nexts.items c.self.inside.entries.items c.args.index c.self.view_is c.self.invariant.0 c.requires.room in
     let here : c.index-at.result.now ≡ get_or c.self.inside.nexts.items c.args.index 0 = read_at c.self.inside.nexts.items c.args.index c.index-at.result.now w.0 c.index-at.ensures in
     omega arith
 
 pub index_mut-requires-2 : goal.index_mut-requires-2
 index_mut-requires-2 c =
-    let w : (c.args.index < length c.self.inside.nexts.items) × (get_or c.self.inside.nexts.items c.args.index 0 < length c.self.inside.entries.items) = within c.args.self.now c.self.inside.ends.items c.self.inside.nexts.items c.self.inside.entries.items c.args.index c.self.view_is c.self.invariant c.requires.room in
+    let w : (c.args.index < length c.self.inside.nexts.items) × (get_or c.self.inside.nexts.items c.args.index 0 < length c.self.inside.entries.items) = within c.args.self.now c.self.inside.ends.items c.self.inside.nexts.items c.self.inside.entries.items c.args.index c.self.view_is c.self.invariant.0 c.requires.room in
     omega arith
 
 pub overflow_add-at : goal.overflow_add-at
 overflow_add-at c =
-    let w : (c.args.index < length c.self.inside.nexts.items) × (get_or c.self.inside.nexts.items c.args.index 0 < length c.self.inside.entries.items) = within c.args.self.now c.self.inside.ends.items c.self.inside.nexts.items c.self.inside.entries.items c.args.index c.self.view_is c.self.invariant c.requires.room in
+    let w : (c.args.index < length c.self.inside.nexts.items) × (get_or c.self.inside.nexts.items c.args.index 0 < length c.self.inside.entries.items) = within c.args.self.now c.self.inside.ends.items c.self.inside.nexts.items c.self.inside.entries.items c.args.index c.self.view_is c.self.invariant.0 c.requires.room in
     let here : c.index-at.result.now ≡ get_or c.self.inside.nexts.items c.args.index 0 = read_at c.self.inside.nexts.items c.args.index c.index-at.result.now w.0 c.index-at.ensures in
-    omega arith
+    omega (arith, c.self.invariant.1)
 
 pub invariant_of-self : goal.invariant_of-self
 invariant_of-self c =
-    let w : (c.args.index < length c.self.inside.nexts.items) × (get_or c.self.inside.nexts.items c.args.index 0 < length c.self.inside.entries.items) = within c.args.self.now c.self.inside.ends.items c.self.inside.nexts.items c.self.inside.entries.items c.args.index c.self.view_is c.self.invariant c.requires.room in
-    let here : c.index-at.result.now ≡ get_or c.self.inside.nexts.items c.args.index 0 = read_at c.self.inside.nexts.items c.args.index c.index-at.result.now w.0 c.index-at.ensures in
-    put_keeps c.args.self.now c.self.inside.ends.items c.self.inside.nexts.items c.self.inside.entries.items (set c.self.inside.entries.items c.index-at.result.now c.args.value) c.args.index c.index-at.result.now c.self.view_is c.self.invariant c.requires.room here (length-set c.self.inside.entries.items c.index-at.result.now c.args.value)
+    let w : (c.args.index < length c.self.inside.nexts.items) × (get_or c.self.inside.nexts.items c.args.index 0 < length c.self.inside.entries.items) = within c.args.self.now c.self.inside.ends.items c.self.inside.nexts.items c.self.inside.entries.items c.args.index c.self.view_is c.self.invariant.0 c.requires.room in
+    let here : c.index-at.result.now ≡ get_or c.self.inside.nexts.items c.args.index 0 = read_at c.self.inside.nexts.items c.args.index c.index-at.result.now w.0 c.index-at.ensures in (
+      put_keeps c.args.self.now c.self.inside.ends.items c.self.inside.nexts.items c.self.inside.entries.items (set c.self.inside.entries.items c.index-at.result.now c.args.value) c.args.index c.index-at.result.now c.self.view_is c.self.invariant.0 c.requires.room here (length-set c.self.inside.entries.items c.index-at.result.now c.args.value),
+      omega (arith, c.self.invariant.1, length-set c.self.inside.entries.items c.index-at.result.now c.args.value),
+    )
 
 pub returns-clause-parts : goal.returns-clause-parts
 returns-clause-parts c =
-    let w : (c.args.index < length c.self.inside.nexts.items) × (get_or c.self.inside.nexts.items c.args.index 0 < length c.self.inside.entries.items) = within c.args.self.now c.self.inside.ends.items c.self.inside.nexts.items c.self.inside.entries.items c.args.index c.self.view_is c.self.invariant c.requires.room in
-    put_parts c.args.self.now c.self.inside.ends.items c.self.inside.nexts.items c.self.inside.entries.items c.args.index c.index-at.result.now c.args.value c.self.view_is c.self.invariant c.requires.room
+    let w : (c.args.index < length c.self.inside.nexts.items) × (get_or c.self.inside.nexts.items c.args.index 0 < length c.self.inside.entries.items) = within c.args.self.now c.self.inside.ends.items c.self.inside.nexts.items c.self.inside.entries.items c.args.index c.self.view_is c.self.invariant.0 c.requires.room in
+    put_parts c.args.self.now c.self.inside.ends.items c.self.inside.nexts.items c.self.inside.entries.items c.args.index c.index-at.result.now c.args.value c.self.view_is c.self.invariant.0 c.requires.room
     (read_at c.self.inside.nexts.items c.args.index c.index-at.result.now w.0 c.index-at.ensures)

@@ -1,13 +1,8 @@
-use Rattle.std.proofs.Common.{◌≡◌, ◌<◌, ◌+◌, ◌∷◌, ◌++◌, [], ℕ, List, Option, Some, length, take, get_or, ap, sym, ◌∙◌, subst}
-use Rattle.std.specs.Option.{SomeIff}
+use Rattle.std.proofs.Common.{arith, ◌≡◌, ◌<◌, ◌+◌, ◌∷◌, ◌++◌, [], ℕ, List, length, take, get_or, ap, sym, ◌∙◌, subst}
 use Rattle.std.proofs.lemmas.List.{take_more, take_all}
 use Rattle.number_lists.specs.Rooms.{filled, widths, IsFilled}
 use Rattle.number_lists.proofs.Rooms.{ends_of, begins_of, end_of, ends_of-push, begins_of-push, end_of-push, widths-ends_of, filled-begins_of, IsFilled-begins_of}
 use Rattle.number_lists.proofs.slots.Slots.with_rooms.Goals as goal
-
--- the sum that fits
-sum_is : (r : Option ℕ) (P : Type 0) (sum total : ℕ) → SomeIff r P sum → r ≡ Some total → total ≡ sum
-sum_is r P sum total h e = let k : P × (total ≡ sum) = subst (λ (o : Option ℕ). SomeIff o P sum) e h in k.1
 
 -- a step of the loop
 more : (rooms : List ℕ) (i total : ℕ) → i < length rooms → (F : List ℕ → List ℕ) (xs ys : List ℕ) (n : ℕ) → xs ≡ F (take i rooms) → ys ≡ xs ++ n ∷ []
@@ -22,7 +17,7 @@ loop-room-preserved c =
     let room : ℕ = get_or rooms i 0 in
     let lt : i < length rooms = c.loop-room-test.true in
     let t : c.loop-room.total ≡ end_of 0 (take i rooms) = c.loop-room.invariant.total in
-    let sum : c.in_ok-total.total ≡ c.loop-room.total + room = sum_is c.checked_add.result _ _ _ c.checked_add.ensures c.in_ok-total.ensures.ok_part in
+    let sum : c.in_ok-total.total ≡ c.loop-room.total + room = c.in_ok-total.ensures in
     let total : c.in_ok-total.total ≡ end_of 0 (take i rooms) + room = sum ∙ ap (λ (n : ℕ). n + room) t in
     record {
       ends = more rooms i 0 lt (ends_of 0) c.loop-room.ends.items c.push-in-loop-room.new.self.items c.in_ok-total.total c.loop-room.invariant.ends c.in_ok-push-2.ensures.items
@@ -36,10 +31,12 @@ pub invariant_of-result : goal.invariant_of-result
 invariant_of-result c =
     let all : take c.loop-room.room-index c.args.rooms.now ≡ c.args.rooms.now = take_all c.loop-room.room-index c.args.rooms.now c.loop-room-test.false in
     let long : length c.in_ok-entries.entries.items ≡ end_of 0 c.args.rooms.now =
-    sym c.in_ok-entries.entries.ok.0 ∙ (c.in_ok-entries.ensures.len ∙ (c.loop-room.invariant.total ∙ ap (end_of 0) all)) in
-    subst (λ (es : List ℕ). IsFilled 0 es c.loop-room.nexts.items (length c.in_ok-entries.entries.items)) (sym (c.loop-room.invariant.ends ∙ ap (ends_of 0) all))
-    (subst (λ (ns : List ℕ). IsFilled 0 (ends_of 0 c.args.rooms.now) ns (length c.in_ok-entries.entries.items)) (sym (c.loop-room.invariant.nexts ∙ ap (begins_of 0) all))
-    (subst (λ (n : ℕ). IsFilled 0 (ends_of 0 c.args.rooms.now) (begins_of 0 c.args.rooms.now) n) (sym long) (IsFilled-begins_of 0 c.args.rooms.now)))
+    sym c.in_ok-entries.entries.ok.0 ∙ (c.in_ok-entries.ensures.len ∙ (c.loop-room.invariant.total ∙ ap (end_of 0) all)) in (
+      subst (λ (es : List ℕ). IsFilled 0 es c.loop-room.nexts.items (length c.in_ok-entries.entries.items)) (sym (c.loop-room.invariant.ends ∙ ap (ends_of 0) all))
+          (subst (λ (ns : List ℕ). IsFilled 0 (ends_of 0 c.args.rooms.now) ns (length c.in_ok-entries.entries.items)) (sym (c.loop-room.invariant.nexts ∙ ap (begins_of 0) all))
+          (subst (λ (n : ℕ). IsFilled 0 (ends_of 0 c.args.rooms.now) (begins_of 0 c.args.rooms.now) n) (sym long) (IsFilled-begins_of 0 c.args.rooms.now))),
+      omega (arith, c.in_ok-entries.entries.ok.0, c.in_ok-entries.ensures.len, c.loop-room.auto.total-fits),
+    )
 
 pub returns-clause-rooms : goal.returns-clause-rooms
 returns-clause-rooms c =
