@@ -1,8 +1,10 @@
 -- The units of pairs: for each pair its lower and its upper.
-use Rattle.std.proofs.Common.{◌≡◌, ◌≢◌, ◌⊎◌, inl, inr, ℕ, zero, suc, ◌+◌, ◌-◌, ◌<◌, List, [], ◌∷◌, length, map, replicate, set, get_or, refl, ap, sym, ◌∙◌, arith, subst}
+use Rattle.std.proofs.Common.{◌≡◌, ◌≢◌, ◌⊎◌, inl, inr, ℕ, zero, suc, ◌+◌, ◌-◌, ◌<◌, ◌≤◌, List, [], ◌∷◌, length, map, replicate, set, get_or, refl, ap, sym, ◌∙◌, arith, subst}
 use Rattle.std.specs.List.{AllByRecursion}
 use Rattle.std.proofs.lemmas.List.{length-map, get_or-map}
+use Rattle.std.proofs.lemmas.List.Elements.{All-cons, All-nil}
 use Rattle.small_field.specs.Field.{Ops, IsField}
+use Rattle.small_field.specs.Sparse.{IsSparse}
 use Rattle.linear_laws.specs.Marks.{mark}
 use Rattle.linear_laws.specs.Triangle.{Triangle}
 use Rattle.linear_laws.specs.Vectors.{combination, dot, entry, IsVector}
@@ -68,6 +70,14 @@ same_place : (a b : ℕ) → at_place a ≡ at_place b → a ≡ b
 unfolding first
 same_place a b e = let h : a + 1 ≡ b + 1 = ap first e in omega (arith, h)
 
+-- one entry that is not 0 is sparse
+sparse_one : (position value : ℕ) → value ≢ 0 → IsSparse ((position, value) ∷ [])
+sparse_one position value ne = record {
+  increasing = λ k l. absurd (omega (arith, l));
+  nonzero = All-cons (λ x. x.1 ≢ 0) (position, value) [] ne (All-nil (λ x. x.1 ≢ 0));
+  few = omega arith;
+}
+
 module _ (F : Ops) (L : IsField F) (s next : Stage) (P : IsPaired F s next) where
   left_is : (i : ℕ) → i < length s.pairs → IsLeft F (level_of s) (unit_of (pair_at s.pairs i))
   left_is i lt =
@@ -77,6 +87,9 @@ module _ (F : Ops) (L : IsField F) (s next : Stage) (P : IsPaired F s next) wher
       let e : filled n ((p.lower + 1, 1) ∷ []) ≡ mark n p.lower = filled_mark F L s next P n p.lower ((p.lower + 1, 1) ∷ []) refl in
       let kind : kind_at s.kinds p.lower ≡ Lower = elim (P.matching.kinds.lower_or p.lower low) [ inl a ↦ absurd (differs_at p.lower s.pairs i lt a refl) | inr k ↦ k ] in
       record {
+        sparse = sparse_one (p.lower + 1) 1 (λ z. absurd (omega (arith, z)));
+        numbers = All-cons (λ x. (1 ≤ x.0) × (x.0 ≤ n)) (p.lower + 1, 1) [] (omega arith, omega (arith, low)) (All-nil (λ x. (1 ≤ x.0) × (x.0 ≤ n)));
+        elements = All-cons (λ x. x.1 < F.size) (p.lower + 1, 1) [] L.one_below (All-nil (λ x. x.1 < F.size));
         vector = subst (IsVector F n) (sym e) (mark_vector F L n p.lower);
         lowers = subst (ZeroOffLowers s.kinds) (sym e) (off_mark s.kinds p.lower low kind);
       }

@@ -2,7 +2,7 @@
 -- its entries that are not 0, at the numbers of cells, which count from 1. l and next are two degrees, F is the arithmetic of a field.
 -- (Discrete Morse theory; R. Forman.)
 --   unit_at units index                      the unit of an index, which counts from 0
---   IsLeft F l u                             the left side is an element at each cell, and zero but on lowers
+--   IsLeft F l u                             the left side has elements at the numbers of cells, and is zero but on lowers
 --   IsRight u place                          the right side is the cell at a place, with the value 1
 --   IsRightOf units place index              the index is the one whose unit has the right side at a place
 --   MatchUppers units us                     each right side is an upper, and each upper is the right side of exactly one unit
@@ -12,9 +12,10 @@
 --                                            each degree has its units
 --   IsLevelOf F space negative pairs dim l   l is what is seen of a dimension of a signed set with a field of pairs
 --   IsReductionOf F space negative pairs levels   so for each degree
-use Rattle.std.specs.Prelude.{◌≡◌, ℕ, ◌+◌, ◌<◌, ◌≤◌, List, [], ◌∷◌, Bool, length, map, slice_index_or}
+use Rattle.std.specs.Prelude.{◌≡◌, ℕ, ◌+◌, ◌<◌, ◌≤◌, List, [], ◌∷◌, Bool, length, map, slice_index_or, All}
 use Rattle.std.specs.List.{AllByRecursion}
 use Rattle.small_field.specs.Field.{Ops}
+use Rattle.small_field.specs.Sparse.{IsSparse}
 use Rattle.linear_laws.specs.Vectors.{combination, IsVector}
 use Rattle.linear_laws.specs.Triangle.{Triangle}
 use Rattle.face_poset.specs.declared.cells.Pair.{Pair}
@@ -36,6 +37,9 @@ abbrev pub unit_at : List Unit → ℕ → Unit
 unit_at units index = slice_index_or units index no_unit
 
 pub record IsLeft (F : Ops) (l : Level) (u : Unit) : Type 0 where
+  pub sparse : IsSparse u.left
+  pub numbers : All (λ e. (1 ≤ e.0) × (e.0 ≤ length l.kinds)) u.left
+  pub elements : All (λ e. e.1 < F.size) u.left
   pub vector : IsVector F (length l.kinds) (filled (length l.kinds) u.left)
   pub lowers : ZeroOffLowers l.kinds (filled (length l.kinds) u.left)
 

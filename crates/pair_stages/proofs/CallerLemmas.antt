@@ -2,6 +2,8 @@
 
 -- there are at most as many critical cells as cells
 pub use Rattle.pair_stages.proofs.Placed.{criticals_few}
+-- how many critical cells there are, the number of each, its place among the cells, and the value there
+pub use Rattle.pair_stages.proofs.Placed.{critical_long, critical_at, place_below, part_at}
 -- two degrees, one after the other
 pub use Rattle.pair_stages.proofs.UnitLemmas.{paired_at}
 -- the reduced rows of a degree are one
