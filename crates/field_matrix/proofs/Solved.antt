@@ -1,26 +1,29 @@
-use Rattle.std.proofs.Common.{◌≡◌, ℕ, zero, suc, ◌+◌, ◌<◌, List, [], ◌∷◌, ◌++◌, length, length-append, map, take, drop, replicate, get_or, true, false, refl, ap, sym, ◌∙◌, arith, subst}
-use Rattle.std.proofs.lemmas.Simd.{length-replicate}
-use Rattle.std.proofs.lemmas.List.{length-map, take_at, get_or-take, drop_at}
+-- Solutions by a reduced form and its history.
+use Rattle.std.proofs.Common.{◌≡◌, ℕ, zero, suc, ◌+◌, ◌<◌, List, [], ◌∷◌, length, map, drop, replicate, get_or, Some, true, false, refl, ap, sym, ◌∙◌, arith, subst}
+use Rattle.std.proofs.lemmas.List.{length-map}
 use Rattle.small_field.specs.Field.{Ops, IsField}
-use Rattle.linear_laws.specs.Marks.{identity, beside, lefts}
 use Rattle.linear_laws.specs.Vectors.{IsVector, IsMatrix, InSpan, plus_scaled, combination}
 use Rattle.small_field.specs.Values.{AreElements}
-use Rattle.linear_laws.specs.Echelon.{IsReducedTo, is_nonzero}
+use Rattle.linear_laws.specs.Echelon.{is_nonzero, rank_of}
 use Rattle.small_field.proofs.CallerLemmas.{neg_mul, neg_unique, neg_neg}
-use Rattle.linear_laws.proofs.CallerLemmas.{none_is_zeros, zeros_are_none, combination-vector, one_times, span_plus, zeros-elements, plus_scaled-long, span_scaled, zero_at_pivots, all_append, take-plus_scaled, drop-plus_scaled, left_vector, told_by_right, left_reduced, left_pivots}
-use Rattle.field_matrix.specs.Steps.{IsReducedBy, IsSwept, IsClearAt}
+use Rattle.linear_laws.proofs.CallerLemmas.{none_is_zeros, zeros_are_none, combination-vector, combination_twice, span_plus, span_scaled, zero_at_pivots}
+use Rattle.field_matrix.specs.Solutions.{IsElimination}
+use Rattle.field_matrix.specs.Steps.{IsSwept, IsClearAt}
 use Rattle.field_matrix.proofs.Sweep.{place_is}
 
 module _ (k : Ops) (f : IsField k) where
-  pub negated-elements : (xs : List ℕ) → AreElements k (map k.neg xs)
-  negated-elements [] = tt
-  negated-elements (x ∷ xs) = (f.neg_below x, negated-elements xs)
+  negatives-elements : (xs : List ℕ) → AreElements k (map k.neg xs)
+  negatives-elements [] = tt
+  negatives-elements (x ∷ xs) = (f.neg_below x, negatives-elements xs)
+
+  pub negatives-vector : (n : ℕ) (xs : List ℕ) → IsVector k n xs → IsVector k n (map k.neg xs)
+  negatives-vector n xs v = record { long = length-map xs k.neg ∙ v.long; elements = negatives-elements xs }
 
   -- the negatives are multiples
-  negated_scaled : (xs : List ℕ) → AreElements k xs → map k.neg xs ≡ map (k.mul (k.neg 1)) xs
-  negated_scaled [] h = refl
-  negated_scaled (x ∷ xs) h =
-      ap (λ (y : ℕ). y ∷ map k.neg xs) (ap k.neg (sym (f.one_mul x h.0)) ∙ sym (neg_mul k f 1 x)) ∙ ap (λ (r : List ℕ). k.mul (k.neg 1) x ∷ r) (negated_scaled xs h.1)
+  negatives_scaled : (xs : List ℕ) → AreElements k xs → map k.neg xs ≡ map (k.mul (k.neg 1)) xs
+  negatives_scaled [] h = refl
+  negatives_scaled (x ∷ xs) h =
+      ap (λ (y : ℕ). y ∷ map k.neg xs) (ap k.neg (sym (f.one_mul x h.0)) ∙ sym (neg_mul k f 1 x)) ∙ ap (λ (r : List ℕ). k.mul (k.neg 1) x ∷ r) (negatives_scaled xs h.1)
 
   -- what the negatives cancel
   cancelled : (m : ℕ) (rhs xs : List ℕ) → IsVector k m rhs → IsVector k m xs → plus_scaled k 1 (map k.neg rhs) xs ≡ replicate m 0 → xs ≡ rhs
@@ -38,71 +41,32 @@ module _ (k : Ops) (f : IsField k) where
       sym (f.one_mul x w.elements.0) ∙ (neg_unique k f (k.neg r) (k.mul 1 x) (f.mul_below 1 x) here ∙ neg_neg k f r v.elements.0) in
       ap (λ (y : ℕ). y ∷ xs) is ∙ ap (λ (u : List ℕ). r ∷ u) (cancelled m rhs xs (record { long = lr; elements = v.elements.1 }) (record { long = lx; elements = w.elements.1 }) rest)
 
-  pub start_vector : (m n : ℕ) (rhs : List ℕ) → IsVector k m rhs → IsVector k (m + n) (map k.neg rhs ++ replicate n 0)
-  start_vector m n rhs v =
-      let l : length rhs ≡ m = v.long in
-      record {
-        long = length-append (map k.neg rhs) (replicate n 0) ∙ omega (arith, length-map rhs k.neg, length-replicate {A = ℕ} n 0);
-        elements = all_append (λ x. x < k.size) (map k.neg rhs) (replicate n 0) (negated-elements rhs) (zeros-elements k f n);
-      }
-
-  module _ (m n r : ℕ) (rows after : List (List ℕ)) (a : IsMatrix k m rows) (long : length rows ≡ n) (h : IsReducedTo k (m + n) r m (beside rows (identity n)) after) (rhs w : List ℕ) (vr : IsVector k m rhs) (s : IsSwept k (m + n) after (map k.neg rhs ++ replicate n 0) w) where
-    difference_told : (take m s.difference ≡ combination k m (drop m s.difference) rows) × IsVector k n (drop m s.difference)
-    difference_told = told_by_right k f m n r rows after a long h s.difference (h.span.back s.difference s.inside)
-
-    difference_vector : IsVector k (m + n) s.difference
-    difference_vector = subst (IsVector k (m + n)) s.inside.is (combination-vector k f (m + n) s.inside.coefficients after h.matrix)
-
-    lm : length (map k.neg rhs) ≡ m
-    lm = length-map rhs k.neg ∙ vr.long
-
-    right_is : drop m w ≡ drop m s.difference
-    right_is =
-        ap (drop m) s.is
-        ∙ (drop-plus_scaled k f m 1 (map k.neg rhs ++ replicate n 0) s.difference ((start_vector m n rhs vr).long ∙ sym difference_vector.long)
-        ∙ (ap (λ (u : List ℕ). plus_scaled k 1 u (drop m s.difference)) (drop_at (map k.neg rhs) (replicate n 0) m lm)
-        ∙ one_times k f n (drop m s.difference) difference_told.1.long difference_told.1.elements))
-
-    left_is : take m w ≡ plus_scaled k 1 (map k.neg rhs) (take m s.difference)
-    left_is = ap (take m) s.is ∙ (take-plus_scaled k f m 1 (map k.neg rhs ++ replicate n 0) s.difference ∙ ap (λ (u : List ℕ). plus_scaled k 1 u (take m s.difference)) (take_at (map k.neg rhs) (replicate n 0) m lm))
-
-    pub answer_vector : IsVector k n (drop m w)
-    answer_vector = subst (IsVector k n) (sym right_is) difference_told.1
-
-    left_long : length (take m w) ≡ m
-    left_long =
-        let l : length (take m s.difference) ≡ m = (left_vector k f m n s.difference difference_vector).long in
-        ap length left_is ∙ (plus_scaled-long k f 1 (map k.neg rhs) (take m s.difference) (lm ∙ sym l) ∙ lm)
+  module _ (n : ℕ) (rows reduced history : List (List ℕ)) (e : IsElimination k n rows reduced history) (right left told : List ℕ) (vr : IsVector k n right) (s : IsSwept k n (length rows) reduced history (map k.neg right) left told) where
+    -- the coefficients are a vector
+    pub told_vector : IsVector k (length rows) told
+    told_vector = subst (IsVector k (length rows)) (sym s.told_is) (combination-vector k f (length rows) s.coefficients history e.is_history.matrix)
 
     -- nothing is left of the right side: the history has the coefficients
-    pub solved : is_nonzero (take m w) ≡ false → combination k m (drop m w) rows ≡ rhs
-    solved none =
-        let zeros : take m w ≡ replicate m 0 = none_is_zeros (take m w) none ∙ ap (λ (j : ℕ). replicate {A = ℕ} j 0) left_long in
-        ap (λ (cs : List ℕ). combination k m cs rows) right_is
-        ∙ (sym difference_told.0 ∙ cancelled m rhs (take m s.difference) vr (left_vector k f m n s.difference difference_vector) (sym left_is ∙ zeros))
-
-    abbrev reduced_by : IsReducedBy m r after
-    reduced_by = record { pivots = h.pivots; rank_is = h.rank_is; reduced = h.reduced }
+    pub solved : IsVector k n left → is_nonzero left ≡ false → combination k n told rows ≡ right
+    solved vl none =
+        let zeros : left ≡ replicate n 0 = none_is_zeros left none ∙ ap (λ (j : ℕ). replicate {A = ℕ} j 0) vl.long in
+        ap (λ (cs : List ℕ). combination k n cs rows) s.told_is
+        ∙ (sym (combination_twice k f n s.coefficients history rows e.is_matrix e.is_history.matrix)
+        ∙ (ap (combination k n s.coefficients) e.is_history.gives
+        ∙ cancelled n right (combination k n s.coefficients reduced) vr (combination-vector k f n s.coefficients reduced e.is_reduced.matrix) (sym s.is ∙ zeros)))
 
     -- something is left: there are no coefficients
-    pub unsolvable : IsClearAt m r after w → is_nonzero (take m w) ≡ true → InSpan k m rows rhs → ⊥
+    pub unsolvable : IsClearAt (length reduced) reduced left → is_nonzero left ≡ true → InSpan k n rows right → ⊥
     unsolvable clear some p =
-        let nr : InSpan k m rows (map k.neg rhs) = subst (InSpan k m rows) (sym (negated_scaled rhs vr.elements)) (span_scaled k f m (k.neg 1) rows rhs a vr.long p) in
-        let d : InSpan k m rows (take m s.difference) = record {
-          coefficients = drop m s.difference;
-          vector = subst (λ (j : ℕ). IsVector k j (drop m s.difference)) (sym long) difference_told.1;
-          is = sym difference_told.0;
-        } in
-        let inside : InSpan k m rows (take m w) = subst (InSpan k m rows) (sym left_is) (span_plus k f m 1 rows (map k.neg rhs) (take m s.difference) a nr d) in
-        let left : IsReducedTo k m r m rows (lefts m after) = left_reduced k f m n r rows after a long h in
-        let e : left.pivots ≡ h.pivots = left_pivots k f m n r rows after a long h in
-        let lp : length h.pivots ≡ r = h.rank_is in
-        let at : (i : ℕ) → i < r → get_or (take m w) (get_or left.pivots i 0) 0 ≡ 0 =
+        let negative : InSpan k n rows (map k.neg right) = subst (InSpan k n rows) (sym (negatives_scaled right vr.elements)) (span_scaled k f n (k.neg 1) rows right e.is_matrix vr.long p) in
+        let d : InSpan k n rows (combination k n s.coefficients reduced) =
+        e.is_reduced.span.back (combination k n s.coefficients reduced) (record { coefficients = s.coefficients; vector = s.vector; is = refl }) in
+        let inside : InSpan k n rows left = subst (InSpan k n rows) (sym s.is) (span_plus k f n 1 rows (map k.neg right) (combination k n s.coefficients reduced) e.is_matrix negative d) in
+        let lp : length e.is_reduced.pivots ≡ rank_of reduced = e.is_reduced.rank_is in
+        let few = e.is_reduced.reduced.few in
+        let at : (i : ℕ) → i < rank_of reduced → get_or left (get_or e.is_reduced.pivots i 0) 0 ≡ 0 =
         λ i lt.
-        let within : get_or h.pivots i 0 < m = h.reduced.within i (omega arith) in
-        ap (λ (ps : List ℕ). get_or (take m w) (get_or ps i 0) 0) e
-        ∙ (get_or-take m w (get_or h.pivots i 0) 0 within
-        ∙ clear i (get_or h.pivots i 0) lt (place_is k f (m + n) m r after h.matrix (omega arith) reduced_by i lt)) in
-        let none : take m w ≡ replicate m 0 = zero_at_pivots k f m r rows (lefts m after) left (take m w) inside at in
-        let no : true ≡ false = sym some ∙ (ap is_nonzero none ∙ zeros_are_none m) in
+        clear i (get_or e.is_reduced.pivots i 0) (omega (arith, lt, lp, few)) (place_is k f n reduced e.is_reduced.matrix e.is_reduced.pivots e.is_reduced.reduced i (omega (arith, lt, lp))) in
+        let none : left ≡ replicate n 0 = zero_at_pivots k f n (rank_of reduced) rows reduced e.is_reduced left inside at in
+        let no : true ≡ false = sym some ∙ (ap is_nonzero none ∙ zeros_are_none n) in
         cc

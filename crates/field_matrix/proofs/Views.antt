@@ -3,7 +3,7 @@ use Rattle.std.proofs.lemmas.List.{take_at, replicate-append-replicate}
 use Rattle.std.proofs.Math.Seq.{drop-append_seam}
 use Rattle.std.proofs.lemmas.Simd.{length-replicate}
 use Rattle.small_field.specs.Field.{Ops, IsField}
-use Rattle.linear_laws.specs.Vectors.{IsMatrix, entry}
+use Rattle.linear_laws.specs.Vectors.{IsMatrix, row_at, entry}
 use Rattle.linear_laws.proofs.CallerLemmas.{row_entry_below}
 use Rattle.field_matrix.specs.Rows.{cut, Rows, IsFilled}
 use Rattle.field_matrix.proofs.Cut.{length-cut, cut-matrix}
@@ -31,3 +31,8 @@ cut-zeros (suc n) c m e =
 module _ (k : Ops) (f : IsField k) where
   pub entry_small : (size n c i j : ℕ) (xs : List ℕ) → k.size ≡ size → IsFilled k n c xs → entry (cut n c xs) i j < size
   entry_small size n c i j xs e h = subst (λ (b : ℕ). entry (cut n c xs) i j < b) e (row_entry_below k f c (cut n c xs) i j (cut-matrix k n c xs h.long h.elements))
+
+-- a row that is read from the entries
+pub row_seen : (n c i : ℕ) (xs row : List ℕ) (v : Rows) → n ≡ length v.rows → c ≡ v.cols → cut (length v.rows) v.cols xs ≡ v.rows → row ≡ row_at (cut n c xs) i → row ≡ row_at v.rows i
+row_seen n c i xs row v en ec is e =
+    e ∙ (ap (λ (j : ℕ). row_at (cut j c xs) i) en ∙ (ap (λ (j : ℕ). row_at (cut (length v.rows) j xs) i) ec ∙ ap (λ (rows : List (List ℕ)). row_at rows i) is))

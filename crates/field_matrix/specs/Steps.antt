@@ -7,12 +7,13 @@
 --   IsNextPivot rows rank begin upto row col      the column is the first from `begin` on, before `upto`, at which one of them is not zero,
 --                                                 and the row the first such row
 --   IsReducedBy width rank rows                   the first `rank` rows have pivots in the first `width` columns, in reduced row echelon form
---   IsSwept k cols rows before after              a row to which a combination of the rows was added
---   IsClearAt width upto rows row                 zero in the first column that is not zero, among the first `width`, of each of the first `upto` rows
-use Rattle.std.specs.Prelude.{◌≡◌, ◌≢◌, ℕ, ◌<◌, ◌≤◌, List, Some, length, take, slice_index}
+--   IsSwept k cols width rows history before after told
+--                                                 a row to which a combination of the rows was added, and the same combination of their history
+--   IsClearAt upto rows row                       zero in the first column that is not zero of each of the first `upto` rows
+use Rattle.std.specs.Prelude.{◌≡◌, ◌≢◌, ℕ, ◌<◌, ◌≤◌, List, Some, length, slice_index}
 use Rattle.lane_rows.specs.Lanes.{first_place}
 use Rattle.small_field.specs.Field.{Ops}
-use Rattle.linear_laws.specs.Vectors.{IsMatrix, InSpan, SameSpan, plus_scaled, row_at, entry}
+use Rattle.linear_laws.specs.Vectors.{IsVector, IsMatrix, SameSpan, combination, plus_scaled, row_at, entry}
 use Rattle.linear_laws.specs.Echelon.{IsReducedBelow}
 
 pub record IsCleared (k : Ops) (cols rank col upto : ℕ) (before after : List (List ℕ)) : Type 0 where
@@ -55,10 +56,11 @@ pub record IsReducedBy (width rank : ℕ) (rows : List (List ℕ)) : Type 0 wher
   pub rank_is : length pivots ≡ rank
   pub reduced : IsReducedBelow width rows pivots
 
-pub record IsSwept (k : Ops) (cols : ℕ) (rows : List (List ℕ)) (before after : List ℕ) : Type 0 where
-  pub difference : List ℕ
-  pub inside : InSpan k cols rows difference
-  pub is : after ≡ plus_scaled k 1 before difference
+pub record IsSwept (k : Ops) (cols width : ℕ) (rows history : List (List ℕ)) (before after told : List ℕ) : Type 0 where
+  pub coefficients : List ℕ
+  pub vector : IsVector k (length rows) coefficients
+  pub is : after ≡ plus_scaled k 1 before (combination k cols coefficients rows)
+  pub told_is : told ≡ combination k width coefficients history
 
-abbrev pub IsClearAt : ℕ → ℕ → List (List ℕ) → List ℕ → Type 0
-IsClearAt width upto rows row = (a p : ℕ) → a < upto → first_place (take width (row_at rows a)) ≡ Some p → slice_index row p ≡ 0
+abbrev pub IsClearAt : ℕ → List (List ℕ) → List ℕ → Type 0
+IsClearAt upto rows row = (a p : ℕ) → a < upto → first_place (row_at rows a) ≡ Some p → slice_index row p ≡ 0

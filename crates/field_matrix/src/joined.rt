@@ -1,6 +1,6 @@
 //! Rows with the rows of the identity beside them, so that elimination keeps its history.
 
-ghost use Rattle.std.specs.Prelude.{◌≡◌, ◌≢◌, ℕ, ◌+◌, ◌-◌, ◌*◌, ◌<◌, ◌≤◌, ◌^◌, ◌++◌, ◌==◌, if◌then◌else◌};
+ghost use Rattle.std.specs.Prelude.{◌≡◌, ℕ, ◌+◌, ◌-◌, ◌*◌, ◌<◌, ◌≤◌, ◌++◌, ◌==◌, if◌then◌else◌};
 ghost use Rattle.std.specs.Prelude.{length, map, take, drop, replicate, IfOk, All};
 ghost use Rattle.linear_laws.specs.Vectors.{IsVector, IsMatrix, row_at};
 ghost use Rattle.small_field.specs.Values.{AreElements};
@@ -81,42 +81,6 @@ pub fn reduce_uncounted<F: Field>(entries: &mut [u8], shape: Shape, upto: usize)
     ensures { IsReducedTo F.ops shape.cols result upto (rows_in shape entries.old) (rows_in shape entries.new) }
 {
     reduce_with::<F, Brand>(entries, shape, upto, Blank::new(1))
-}
-
-/// The negatives of the numbers, followed by so many zeros.
-pub fn negated<F: Field>(alloc: Global, numbers: &[u8], extra: usize) -> Result<Vec<u8>, AllocError>
-    requires { AreElements F.ops numbers.now }
-    ensures { IfOk result (λ row. row.items ≡ map F.ops.neg numbers.now ++ replicate extra 0) }
-{
-    let mut row = Vec::new(alloc);
-    for number in numbers {
-        row.push(F::from_number(*number as u32).neg().to_number() as u8)?;
-    }
-    for _ in 0..extra {
-        row.push(0)?;
-    }
-    Ok(row)
-}
-
-/// Takes multiples of the first `rank` rows from a row, so that it is zero at their pivots, which
-/// are among the first `width` columns.
-pub fn sweep<F: Field>(joined: &[u8], shape: Shape, width: usize, rank: usize, row: &mut [u8])
-    requires shape { length joined.now ≡ shape.rows * shape.cols }
-    requires width { width ≤ shape.cols }
-    requires few { width < 2 ^ 32 }
-    requires matrix { IsMatrix F.ops shape.cols (rows_in shape joined.now) }
-    requires reduced { IsReducedBy width rank (rows_in shape joined.now) }
-    requires row { IsVector F.ops shape.cols row.old }
-    ensures vector { IsVector F.ops shape.cols row.new }
-    ensures swept { IsSwept F.ops shape.cols (rows_in shape joined.now) row.old row.new }
-    ensures clear { IsClearAt width rank (rows_in shape joined.now) row.new }
-{
-    for i in 0..rank {
-        let source = row_of(joined, shape, i);
-        let place = lane_rows::first_nonzero(&source[..width]).unwrap() as usize;
-        let factor = F::from_number(row[place] as u32).neg();
-        F::add_scaled_row(row, source, factor);
-    }
 }
 
 /// What stands right of the first `width` columns in the rows from `from` on.

@@ -76,6 +76,7 @@ impl<F: Field> Row<F> {
     /// The numbers of the elements.
     pub(crate) fn numbers(&self) -> &[u8]
         ensures numbers { result.now ≡ self.now }
+        ensures few { length self.now < 2 ^ 32 }
         ensures elements { AreElements F.ops self.now }
     {
         &self.numbers
