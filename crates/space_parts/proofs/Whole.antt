@@ -24,7 +24,7 @@ map_kept f [] h = refl
 map_kept f (x ∷ xs) h = ap (λ (y : ℕ). y ∷ map f xs) (h x here) ∙ ap (λ (ys : List ℕ). x ∷ ys) (map_kept f xs (λ y i. h y (there i)))
 
 -- the cell of the space from which one of a part comes
-whole_is : (space : List (List (List ℕ))) (number d n : ℕ) → d ≤ 3 → whole_of (piece_of space number) d n ≡ get_or (cells_in space number d) (n - 1) 0
+pub whole_is : (space : List (List (List ℕ))) (number d n : ℕ) → d ≤ 3 → whole_of (piece_of space number) d n ≡ get_or (cells_in space number d) (n - 1) 0
 whole_is space number d n l = by_dim (λ e. whole_of (piece_of space number) e n ≡ get_or (cells_in space number e) (n - 1) 0) refl refl refl refl d l
 
 module _ (space : List (List (List ℕ))) (hs : IsSpace space) (numbered : ComponentsAreNumbered) (one : component_count space ≡ 1) where
