@@ -18,5 +18,5 @@ pub use Rattle.space_parts.proofs.PartSpaces.{member_facet, part_space}
 pub use Rattle.space_parts.proofs.PartCopies.{copies, part_regular}
 -- the part has one component
 pub use Rattle.space_parts.proofs.OneComponent.{part_whole}
--- the cell of the space from which one of the part comes; with one component it is the same number
-pub use Rattle.space_parts.proofs.Whole.{whole_is, numbers_kept, part_is_space}
+-- the cell of the space from which one of the part comes; with one component all numbers stay
+pub use Rattle.space_parts.proofs.Whole.{whole_is, all_first, place_kept, numbers_kept, part_is_space}

@@ -28,13 +28,13 @@ pub whole_is : (space : List (List (List ℕ))) (number d n : ℕ) → d ≤ 3 �
 whole_is space number d n l = by_dim (λ e. whole_of (piece_of space number) e n ≡ get_or (cells_in space number e) (n - 1) 0) refl refl refl refl d l
 
 module _ (space : List (List (List ℕ))) (hs : IsSpace space) (numbered : ComponentsAreNumbered) (one : component_count space ≡ 1) where
-  all_first : (d c : ℕ) → 1 ≤ c → c ≤ count space d → component_at space d c ≡ 1
+  pub all_first : (d c : ℕ) → 1 ≤ c → c ≤ count space d → component_at space d c ≡ 1
   all_first d c low high = let w = component_in space hs numbered d c low high in omega (arith, w.0, w.1, one)
 
   upto_all : (d c : ℕ) → c ≤ count space d → cells_upto space 1 d c ≡ upto c
   upto_all d c high = filter_all (λ x. eqb (component_at space d x) 1) (upto c) (λ x i. let w = upto-In c x i in eq-eqb (component_at space d x) 1 (all_first d x w.0 (omega (arith, w.1, high))))
 
-  place_kept : (d c : ℕ) → c ≤ count space d → place_in space 1 d c ≡ c
+  pub place_kept : (d c : ℕ) → c ≤ count space d → place_in space 1 d c ≡ c
   place_kept d c high = ap length (upto_all d c high) ∙ length-upto c
 
   facets_kept : (d c : ℕ) → 1 ≤ c → c ≤ count space d → facets_in space 1 d c ≡ facets_of space d c

@@ -1,0 +1,5 @@
+pub mod CallerLemmas
+mod Members
+mod InParts
+mod Wholes
+mod Joined

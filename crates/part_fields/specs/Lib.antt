@@ -1,0 +1,3 @@
+-- What the contracts mean: Fields and Laws.
+pub mod Fields
+pub mod Laws
