@@ -3,3 +3,4 @@ mod Members
 mod InParts
 mod Wholes
 mod Joined
+mod Examples

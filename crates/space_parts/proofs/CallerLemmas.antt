@@ -6,7 +6,6 @@ pub use Rattle.space_parts.proofs.Whole.{map_kept}
 pub use Rattle.space_parts.proofs.Stages.{parts_differ, made-more, made-end, made-above, made-below}
 -- what holds of the dimensions 0 to 3
 pub use Rattle.space_parts.proofs.Places.{by_dim}
-
 -- ---- cells and their components
 
 -- the facets of a cell are cells of its component; the component of a cell is one of the components
