@@ -18,7 +18,7 @@ use Rattle.order_complex.specs.Cochains.{leave_out}
 use Rattle.order_complex.specs.Complex.{complex_of, number_or_zero}
 use Rattle.order_complex.specs.Laws.{FacesAreBelow, ChainsAreSequences}
 use Rattle.order_complex.proofs.CallerLemmas.{number-of, count-chains}
-use Rattle.vector_field.specs.Pairs.{is_incident, is_used, unpaired, critical_of, IsFieldOf}
+use Rattle.vector_field.specs.Pairs.{pair, is_incident, is_used, unpaired, critical_of, IsFieldOf}
 use Rattle.vector_field.proofs.CallerLemmas.{Lined, lined-append, Goes, IsLined, valid-from, Uses, used-In, unused-from, Incident, incident-from, critical-is}
 use Rattle.local_field.specs.Towers.{TowerPair, facets, inner, top_of, rest_of, Pairwise}
 use Rattle.local_field.specs.Inside.{IsFull, IsTower, FitsUnder, NotUp, InnerApart, Differ, HasTower, LeavesOver}
@@ -468,6 +468,19 @@ module _ (rounds : CyclesGoRound) (faces : FacesAreBelow) (sequences : ChainsAre
       subst (In n) (sym (critical-is (complex_of space) (local_field_of space collapse) d field-valid small))
       (subst (λ (x : ℕ). In x (unpaired (local_pairs space collapse) d (count (complex_of space) d))) (sym r.2)
       (In-filter test (In-upto (count (complex_of space) d) (number_of space (flag_of space d r.0)) g.0 g.1) (not_from_false (is_used (local_pairs space collapse) d (number_of space (flag_of space d r.0))) (flag-unused d r.0 small w.0 w.1))))
+
+  -- the lower of a pair is shorter than a full tower with its top
+  pub lower-short : (d n upper : ℕ) → In (pair d n upper) (local_pairs space collapse) → (t : List ℕ) × IsRoom space valid faces sequences t d × (number_of space t ≡ n) × (length t ≤ dim_at space (top_of t))
+  lower-short d n upper i =
+      let m = map-In (numbered space) (all_inside space collapse) i in
+      let o = all-of m.0 m.1 in
+      let r = rooms m.0 o in
+      let k = at-in m.0 o in
+      let e : d ≡ r.degree = ap (λ (p : Pair). p.dim) m.2 ∙ r.is in
+      let s = k.own.short in
+      let u = k.own.one in
+      let top = ap (dim_at space) (low_top (id_of space (cell_at (suc o.under) o.number)) m.0 k) in
+      (m.0.low, subst (IsRoom space valid faces sequences m.0.low) (sym e) r.low, sym (ap (λ (p : Pair). p.lower) m.2), omega (arith, s, u, top))
 
   pub is-local : IsLocalField space (local_field_of space collapse)
   is-local =

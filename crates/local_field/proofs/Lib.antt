@@ -1,3 +1,4 @@
+pub mod CallerLemmas
 mod InsideCells
 mod Examples
 mod FlagLaw

@@ -47,7 +47,8 @@ module _ (space : List (List (List ℕ))) (valid : IsSpace space) (faces : Faces
   head zero n = refl
   head (suc d) n = refl
 
-  room : (n : ℕ) → 1 ≤ n → n ≤ count space d → IsRoom space valid faces sequences (flag_of space d n) d
+  -- the flag of a cell is a tower that is there
+  pub room : (n : ℕ) → 1 ≤ n → n ≤ count space d → IsRoom space valid faces sequences (flag_of space d n) d
   room n low high =
       let f = full space valid d n small low high in
       let h = head d n in
@@ -59,7 +60,8 @@ module _ (space : List (List (List ℕ))) (valid : IsSpace space) (faces : Faces
         long = full-long space (flag_of space d n) f ∙ ap suc (ap (dim_at space) top ∙ dim-id space d n small low high);
       }
 
-  number : (n : ℕ) → 1 ≤ n → n ≤ count space d → IsNumber space valid faces sequences d (reverse (flag_of space d n)) (N n)
+  -- and a chain with its number
+  pub number : (n : ℕ) → 1 ≤ n → n ≤ count space d → IsNumber space valid faces sequences d (reverse (flag_of space d n)) (N n)
   number n low high =
       let h = room n low high in
       subst (IsNumber space valid faces sequences d (reverse (flag_of space d n))) (sym (tower-number space valid faces sequences (flag_of space d n) d h))

@@ -1,0 +1,4 @@
+mod Sums
+mod Integers
+mod TowerSums
+mod ChainSums

@@ -1,0 +1,35 @@
+-- What is left of the order complex of a regular space when the chains inside each cell are paired. space is the lists
+-- of a regular space, negative dim cell facet tells whether the sign of a facet of a cell is -1; field is that of the
+-- pairs inside all cells, F the arithmetic of a field.
+--   by_flags space                        the cells in the order of the numbers of their flags, by dimension
+--   flag_rows F space negative degree     the rows of the cells with their signs, numbered by their flags
+--   FlagsReduceToCells F                  these are the reduced rows of the chains
+use Rattle.std.specs.Prelude.{◌≡◌, ℕ, suc, ◌≤◌, List, Bool, length}
+use Rattle.face_poset.specs.Poset.{Layers, IsSpace}
+use Rattle.small_field.specs.Field.{Ops}
+use Rattle.vector_field.specs.Pairs.{Field}
+use Rattle.order_complex.specs.Chains.{chains_of}
+use Rattle.order_complex.specs.Ranks.{rows_of}
+use Rattle.cell_signs.specs.Oriented.{IsOriented}
+use Rattle.regular_check.specs.Rules.{IsRegular}
+use Rattle.split_laws.specs.declared.kind.Kind.{Kind}
+use Rattle.split_laws.specs.Solutions.{IsReducedBy}
+use Rattle.pair_stages.specs.Signed.{signed_rows, AreKinds}
+use Rattle.local_field.specs.Numbered.{IsLocalField}
+use Rattle.local_field.specs.Flags.{flags_of, negative_in}
+
+abbrev pub flag_rows : Ops → Layers → (negative : ℕ → ℕ → ℕ → Bool) → (degree : ℕ) → List (List ℕ)
+flag_rows F space negative degree =
+    signed_rows F (flags_of space negative).space (negative_in (flags_of space negative).minus) degree
+
+abbrev pub FlagsReduceToCells : Ops → Type 0
+FlagsReduceToCells F =
+    (space : Layers) (negative : ℕ → ℕ → ℕ → Bool) (field : Field) (degree : ℕ) (kinds next : List Kind)
+    → IsSpace space
+    → IsRegular space
+    → IsOriented space negative
+    → IsLocalField space field
+    → degree ≤ 3
+    → AreKinds field.pairs degree (length (chains_of space degree)) kinds
+    → AreKinds field.pairs (suc degree) (length (chains_of space (suc degree))) next
+    → IsReducedBy F (length (chains_of space degree)) (length (chains_of space (suc degree))) (rows_of F space degree) kinds next (flag_rows F space negative degree)
