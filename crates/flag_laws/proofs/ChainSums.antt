@@ -3,7 +3,7 @@ use Rattle.std.proofs.Common.{◌≡◌, ◌≢◌, inl, inr, ℕ, zero, suc, �
 use Rattle.std.specs.List.{AllByRecursion}
 use Rattle.std.specs.Str.{bytes_eq}
 use Rattle.std.proofs.lemmas.Slice.Eq.{bytes_eq-Decides}
-use Rattle.std.proofs.lemmas.Bool.{false_from_ne_true}
+use Rattle.std.proofs.lemmas.Bool.{false_from_ne_true, false≢true}
 use Rattle.std.proofs.lemmas.List.{reverse-append, length-reverse, reverse-reverse}
 use Rattle.small_field.specs.Field.{Ops, IsField}
 use Rattle.small_field.proofs.CallerLemmas.{zero_below, add_zero, mul_zero, neg_zero, neg_add, neg_neg, neg_mul}
@@ -55,24 +55,19 @@ same-here c = ap (λ (b : Bool). cond b 1 0) ((bytes_eq-Decides c c).1 refl)
 pub same-apart : (c x : List ℕ) → c ≢ x → same_one c x ≡ 0
 same-apart c x n = ap (λ (b : Bool). cond b 1 0) (false_from_ne_true (bytes_eq c x) (λ e. n ((bytes_eq-Decides c x).0 e)))
 
-map-map : {A B C : Type 0} (g : B → C) (f : A → B) (xs : List A) → map g (map f xs) ≡ map (λ x. g (f x)) xs
+pub map-map : {A B C : Type 0} (g : B → C) (f : A → B) (xs : List A) → map g (map f xs) ≡ map (λ x. g (f x)) xs
 map-map g f [] = refl
 map-map {A} {B} {C} g f (x ∷ xs) = ap (λ (r : List C). g (f x) ∷ r) (map-map g f xs)
+
+value-by : (h : List ℕ → ℕ) (b c : List ℕ) (r : ℕ) (t : Bool) → bytes_eq b c ≡ t → (c ≢ b → r ≡ h c) → cond t (h b) r ≡ h c
+value-by h b c r true e again = ap h ((bytes_eq-Decides b c).0 e)
+value-by h b c r false e again = again (λ s. false≢true (sym e ∙ (bytes_eq-Decides b c).1 (sym s)))
 
 -- a cochain that a function gives takes its values
 pub value-of : (h : List ℕ → ℕ) (chains : List (List ℕ)) (c : List ℕ) → In c chains → value chains (map h chains) c ≡ h c
 value-of h [] c i = elim i [ ]
-value-of h (b ∷ chains) c i = by (bytes_eq b c) refl
-  where
-    by : (t : Bool) → bytes_eq b c ≡ t → cond t (h b) (value chains (map h chains) c) ≡ h c
-    by true e = ap h ((bytes_eq-Decides b c).0 e)
-    by false e = elim (In-cases i) [
-      | inl s ↦ absurd (ne (sym e ∙ (bytes_eq-Decides b c).1 (sym s)))
-      | inr j ↦ value-of h chains c j
-    ]
-      where
-        ne : false ≡ true → ⊥
-        ne q = absurd (let p : false ≡ true = q in cc)
+value-of h (b ∷ chains) c i =
+    value-by h b c (value chains (map h chains) c) (bytes_eq b c) refl (λ ne. elim (In-cases i) [ inl s ↦ absurd (ne s) | inr j ↦ value-of h chains c j ])
 
 module _ (F : Ops) (L : IsField F) where
   pub same-below : (c x : List ℕ) → same_one c x < F.size
@@ -84,11 +79,11 @@ module _ (F : Ops) (L : IsField F) where
 
   value-below : (h : List ℕ → ℕ) (chains : List (List ℕ)) (c : List ℕ) → ((x : List ℕ) → h x < F.size) → value chains (map h chains) c < F.size
   value-below h [] c b = zero_below F L
-  value-below h (y ∷ chains) c b = by (bytes_eq y c)
+  value-below h (y ∷ chains) c b = by (bytes_eq y c) (value-below h chains c b)
     where
-      by : (t : Bool) → cond t (h y) (value chains (map h chains) c) < F.size
-      by true = b y
-      by false = value-below h chains c b
+      by : (t : Bool) → value chains (map h chains) c < F.size → cond t (h y) (value chains (map h chains) c) < F.size
+      by true k = b y
+      by false k = k
 
   pub value-mark-below : (chains : List (List ℕ)) (b c : List ℕ) → value chains (mark chains b) c < F.size
   value-mark-below chains b c = value-below (λ x. same_one x b) chains c (λ x. same-below x b)
@@ -197,4 +192,4 @@ module _ (space : List (List (List ℕ))) (valid : IsSpace space) (faces : Faces
         ∙ ap (F.mul s)
         (picked ordered (suc d) n K small low high (λ c. alternating-below F L (map v (leave_out c)))
         ∙ (over-same F L space negative (suc d) n (λ t. K (reverse t)) (left F (λ t. v (reverse t))) (λ t h. left-turned F L v t (λ x. value-mark-below F L C b x))
-        ∙ left-out F L space negative valid oriented d n (λ t. v (reverse t)) low high (λ t. value-mark-below F L C b (reverse t))))))
+        ∙ left-out F L space negative valid oriented d n (λ t. v (reverse t)) low high))))

@@ -2,3 +2,4 @@ mod Sums
 mod Integers
 mod TowerSums
 mod ChainSums
+mod Criticals

@@ -1,12 +1,11 @@
 -- Sums over the full towers of a cell, each with the product of the signs of its steps, and what is left of them with
 -- one cell left out.
 use Rattle.std.proofs.Common.{◌≡◌, ◌≢◌, ℕ, zero, suc, ◌+◌, ◌-◌, ◌<◌, ◌≤◌, List, [], ◌∷◌, Bool, true, false, cond, length, filter, get_or, refl, ap, sym, ◌∙◌, subst, arith}
-use Rattle.std.specs.List.Sorted.{IsStrictlyIncreasing}
 use Rattle.small_field.specs.Field.{Ops, IsField}
 use Rattle.small_field.proofs.CallerLemmas.{zero_below, mul_zero, zero_mul}
 use Rattle.number_lists.specs.Words.{upto, holds}
 use Rattle.number_lists.specs.Members.{In}
-use Rattle.number_lists.proofs.CallerLemmas.{members_sorted, distinct_rising, holds-In}
+use Rattle.number_lists.proofs.CallerLemmas.{members_sorted, AreDistinct, distinct-filter, distinct-range, holds-In}
 use Rattle.face_poset.specs.Poset.{Layers, IsSpace, IsCell, count, facets_of}
 use Rattle.face_poset.specs.Below.{cell_at}
 use Rattle.face_poset.specs.Signs.{SignsCancel}
@@ -102,6 +101,10 @@ module _ (F : Ops) (L : IsField F) (space : Layers) (negative : ℕ → ℕ → 
         let c : IsCell (count space d) fs = facets-cell space valid d n low high in
         members_sorted fs (holds fs) (count space d) c.rises (λ x. refl) (λ x h. facet-range space valid d n x low high (holds-In fs h))
 
+    facets-distinct : (d n : ℕ) → 1 ≤ n → n ≤ count space (suc d) → AreDistinct (facets_of space (suc d) n)
+    facets-distinct d n low high =
+        subst (λ (xs : List ℕ). AreDistinct xs) (sym (facets-filter d n low high)) (distinct-filter (holds (facets_of space (suc d) n)) (distinct-range 1 (count space d)))
+
     -- two steps down cancel
     abbrev two : (d n f : ℕ) → (u : List ℕ → ℕ) → ℕ
     two d n f u = summed F (λ e. F.mul (sg (suc d) f e) (ov d e u)) (facets_of space (suc d) f)
@@ -134,25 +137,26 @@ module _ (F : Ops) (L : IsField F) (space : Layers) (negative : ℕ → ℕ → 
     abbrev pub below : (d n : ℕ) → (u : List ℕ → ℕ) → ℕ
     below d n u = summed F (λ a. F.mul (sg (suc d) n a) (ov d a u)) (facets_of space (suc d) n)
 
-    kept-top : (d n : ℕ) (u : List ℕ → ℕ) → 1 ≤ n → n ≤ count space (suc d) → ((t : List ℕ) → u t < F.size)
-        → ((d' f : ℕ) → suc d' ≡ d → 1 ≤ f → f ≤ count space (suc d') → ov (suc d') f (left F u) ≡ F.mul (sign_element F (is_odd (suc d'))) (below d' f u))
-        → summed F (λ f. F.mul (sg (suc d) n f) (ov d f (left F u))) (facets_of space (suc d) n) ≡ 0
-    kept-top zero n u low high b again =
+    kept-vertex : (n : ℕ) (v : List ℕ → ℕ) → 1 ≤ n → n ≤ count space 1 → summed F (λ f. F.mul (sg 1 n f) (ov 0 f (left F v))) (facets_of space 1 n) ≡ 0
+    kept-vertex n v low high =
         let fs : List ℕ = facets_of space 1 n in
-        let c : ℕ = F.add 0 (F.mul 1 (u [])) in
-        sum-by F L c (λ f. sg 1 n f) fs ∙ (ap (λ (v : ℕ). F.mul v c) (signs-cancel F L (λ f. negative 1 n f) fs (oriented.balance n low high)) ∙ zero_mul F L c)
-    kept-top (suc d) n u low high b again =
+        let c : ℕ = F.add 0 (F.mul 1 (v [])) in
+        sum-by F L c (λ f. sg 1 n f) fs ∙ (ap (λ (x : ℕ). F.mul x c) (signs-cancel F L (λ f. negative 1 n f) fs (oriented.balance n low high)) ∙ zero_mul F L c)
+
+    kept-facets : (d n : ℕ) (v : List ℕ → ℕ) → 1 ≤ n → n ≤ count space (suc (suc d))
+        → ((f : ℕ) → 1 ≤ f → f ≤ count space (suc d) → ov (suc d) f (left F v) ≡ F.mul (sign_element F (is_odd (suc d))) (below d f v))
+        → summed F (λ f. F.mul (sg (suc (suc d)) n f) (ov (suc d) f (left F v))) (facets_of space (suc (suc d)) n) ≡ 0
+    kept-facets d n v low high again =
         let fs : List ℕ = facets_of space (suc (suc d)) n in
         let o : ℕ = sign_element F (is_odd (suc d)) in
-        sum-same F L (λ f. F.mul (sg (suc (suc d)) n f) (ov (suc d) f (left F u))) (λ f. F.mul o (F.mul (sg (suc (suc d)) n f) (two d n f u))) fs
+        sum-same F L (λ f. F.mul (sg (suc (suc d)) n f) (ov (suc d) f (left F v))) (λ f. F.mul o (F.mul (sg (suc (suc d)) n f) (two d n f v))) fs
         (λ f i. (let w = facet-range space valid (suc d) n f low high i in
-        ap (F.mul (sg (suc (suc d)) n f)) (again d f refl w.0 w.1) ∙ mul_out F L (sg (suc (suc d)) n f) o (two d n f u)))
-        ∙ (sum-times F L o (λ f. F.mul (sg (suc (suc d)) n f) (two d n f u)) fs ∙ (ap (F.mul o) (steps-cancel d n u low high) ∙ mul_zero F L o))
+        ap (F.mul (sg (suc (suc d)) n f)) (again f w.0 w.1) ∙ mul_out F L (sg (suc (suc d)) n f) o (two d n f v)))
+        ∙ (sum-times F L o (λ f. F.mul (sg (suc (suc d)) n f) (two d n f v)) fs ∙ (ap (F.mul o) (steps-cancel d n v low high) ∙ mul_zero F L o))
 
-    -- the sum over the towers of a cell with one cell left out is, up to sign, what its facets give
-    pub left-out : (d n : ℕ) (u : List ℕ → ℕ) → 1 ≤ n → n ≤ count space (suc d) → ((t : List ℕ) → u t < F.size)
+    left-step : (d n : ℕ) (u : List ℕ → ℕ) → summed F (λ f. F.mul (sg (suc d) n f) (ov d f (left F (λ s. u (id_of space (cell_at (suc d) n) ∷ s))))) (facets_of space (suc d) n) ≡ 0
         → ov (suc d) n (left F u) ≡ F.mul (sign_element F (is_odd (suc d))) (below d n u)
-    left-out d n u low high b =
+    left-step d n u kept =
         let fs : List ℕ = facets_of space (suc d) n in
         let c : ℕ = id_of space (cell_at (suc d) n) in
         let v : List ℕ → ℕ = λ s. u (c ∷ s) in
@@ -166,11 +170,15 @@ module _ (F : Ops) (L : IsField F) (space : Layers) (negative : ℕ → ℕ → 
         ∙ (over-plus d f (left F v) (λ t. F.mul o (u t)) ∙ ap (F.add (ov d f (left F v))) (over-times o d f u)))
         ∙ (L.mul_add (sg (suc d) n f) (ov d f (left F v)) (F.mul o (ov d f u)) ∙ ap (F.add (A f)) (mul_out F L (sg (suc d) n f) o (ov d f u))))
         ∙ (sum-plus F L A (λ f. F.mul o (B f)) fs
-        ∙ (ap (λ (x : ℕ). F.add x (summed F (λ f. F.mul o (B f)) fs)) (kept-top d n v low high (λ t. b (c ∷ t)) (again d))
+        ∙ (ap (λ (x : ℕ). F.add x (summed F (λ f. F.mul o (B f)) fs)) kept
         ∙ (L.zero_add (summed F (λ f. F.mul o (B f)) fs) (sum-below F L (λ f. F.mul o (B f)) fs) ∙ sum-times F L o B fs)))
-      where
-        again : (d : ℕ) → (d' f : ℕ) → suc d' ≡ d → 1 ≤ f → f ≤ count space (suc d') → ov (suc d') f (left F (λ s. u (id_of space (cell_at (suc d) n) ∷ s))) ≡ F.mul (sign_element F (is_odd (suc d'))) (below d' f (λ s. u (id_of space (cell_at (suc d) n) ∷ s)))
-        again d d' f e l h = left-out d' f (λ s. u (id_of space (cell_at (suc d) n) ∷ s)) l h (λ t. b (id_of space (cell_at (suc d) n) ∷ t))
+
+    -- the sum over the towers of a cell with one cell left out is, up to sign, what its facets give
+    pub left-out : (d n : ℕ) (u : List ℕ → ℕ) → 1 ≤ n → n ≤ count space (suc d) → ov (suc d) n (left F u) ≡ F.mul (sign_element F (is_odd (suc d))) (below d n u)
+    left-out zero n u low high = left-step 0 n u (kept-vertex n (λ s. u (id_of space (cell_at 1 n) ∷ s)) low high)
+    left-out (suc d) n u low high =
+        left-step (suc d) n u
+        (kept-facets d n (λ s. u (id_of space (cell_at (suc (suc d)) n) ∷ s)) low high (λ f l h. left-out d f (λ s. u (id_of space (cell_at (suc (suc d)) n) ∷ s)) l h))
 
     -- ---- flags among the full towers
 
@@ -200,8 +208,7 @@ module _ (F : Ops) (L : IsField F) (space : Layers) (negative : ℕ → ℕ → 
         let i = first-In space valid d n a b in
         let w = facet-range space valid d n first a b i in
         let H : ℕ → ℕ = λ f. F.mul (sg (suc d) n f) (ov d f (λ t. u (c ∷ t))) in
-        let cell : IsCell (count space d) fs = facets-cell space valid d n a b in
-        sum-one F L H fs first (distinct_rising fs cell.rises) i (L.mul_below (sg (suc d) n first) (ov d first (λ t. u (c ∷ t))))
+        sum-one F L H fs first (facets-distinct d n a b) i (L.mul_below (sg (suc d) n first) (ov d first (λ t. u (c ∷ t))))
         (λ f j ne. (let v = facet-range space valid d n f a b j in
         ap (F.mul (sg (suc d) n f)) (flag-away d f first (λ t. u (c ∷ t)) (omega (arith, small)) v.0 v.1 w.0 w.1 ne (λ t k q. h (c ∷ t) (f, t, j, k, refl) (λ e. q (rest e))))
         ∙ mul_zero F L (sg (suc d) n f)))
