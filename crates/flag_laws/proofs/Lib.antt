@@ -3,3 +3,5 @@ mod Integers
 mod TowerSums
 mod ChainSums
 mod Criticals
+mod Entries
+mod ReducedRows

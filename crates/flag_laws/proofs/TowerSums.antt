@@ -101,7 +101,7 @@ module _ (F : Ops) (L : IsField F) (space : Layers) (negative : ℕ → ℕ → 
         let c : IsCell (count space d) fs = facets-cell space valid d n low high in
         members_sorted fs (holds fs) (count space d) c.rises (λ x. refl) (λ x h. facet-range space valid d n x low high (holds-In fs h))
 
-    facets-distinct : (d n : ℕ) → 1 ≤ n → n ≤ count space (suc d) → AreDistinct (facets_of space (suc d) n)
+    pub facets-distinct : (d n : ℕ) → 1 ≤ n → n ≤ count space (suc d) → AreDistinct (facets_of space (suc d) n)
     facets-distinct d n low high =
         subst (λ (xs : List ℕ). AreDistinct xs) (sym (facets-filter d n low high)) (distinct-filter (holds (facets_of space (suc d) n)) (distinct-range 1 (count space d)))
 
