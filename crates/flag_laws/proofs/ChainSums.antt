@@ -1,16 +1,16 @@
 -- The sum of the full towers of a cell as a chain with coefficients, and its boundary.
-use Rattle.std.proofs.Common.{◌≡◌, ◌≢◌, inl, inr, ℕ, zero, suc, ◌+◌, ◌<◌, ◌≤◌, List, [], ◌∷◌, ◌++◌, Bool, true, false, not, cond, map, reverse, length, refl, ap, sym, ◌∙◌, subst, arith}
+use Rattle.std.proofs.Common.{◌≡◌, ◌≢◌, inl, inr, ℕ, zero, suc, ◌<◌, ◌≤◌, List, [], ◌∷◌, ◌++◌, Bool, true, false, not, cond, map, reverse, length, refl, ap, sym, ◌∙◌, subst, arith}
 use Rattle.std.specs.List.{AllByRecursion}
 use Rattle.std.specs.Str.{bytes_eq}
 use Rattle.std.proofs.lemmas.Slice.Eq.{bytes_eq-Decides}
 use Rattle.std.proofs.lemmas.Bool.{false_from_ne_true, false≢true}
-use Rattle.std.proofs.lemmas.List.{reverse-append, length-reverse, reverse-reverse}
+use Rattle.std.proofs.lemmas.List.{reverse-append, length-reverse}
 use Rattle.small_field.specs.Field.{Ops, IsField}
 use Rattle.small_field.proofs.CallerLemmas.{zero_below, add_zero, mul_zero, neg_zero, neg_add, neg_neg, neg_mul}
 use Rattle.linear_laws.specs.Vectors.{dot}
-use Rattle.number_lists.specs.Members.{In, here, there}
+use Rattle.number_lists.specs.Members.{In}
 use Rattle.number_lists.proofs.CallerLemmas.{In-cases, AreDistinct, none, more}
-use Rattle.face_poset.specs.Poset.{Layers, IsSpace, count, facets_of}
+use Rattle.face_poset.specs.Poset.{IsSpace, count}
 use Rattle.face_poset.specs.Below.{cell_at}
 use Rattle.order_complex.specs.Chains.{id_of, chains_of}
 use Rattle.order_complex.specs.Cochains.{leave_out, alternating, value, mark, coboundary_at, coboundary_on}
@@ -23,7 +23,7 @@ use Rattle.local_field.specs.Inside.{IsTower}
 use Rattle.local_field.specs.Buildings.{is_below}
 use Rattle.local_field.specs.Flags.{is_odd}
 use Rattle.local_field.proofs.CallerLemmas.{facet-range, facet-below, id-range, IsRoom, tower-chain, InRange}
-use Rattle.flag_laws.proofs.Sums.{summed, sum-below, sum-same, sum-times, sum-one, dot-maps, mul_out}
+use Rattle.flag_laws.proofs.Sums.{summed, sum-same, sum-times, sum-one, dot-maps, mul_out}
 use Rattle.flag_laws.proofs.TowerSums.{over, FullAt, left, full-long, full-head, over-same, over-below, over-times, over-sum, below, left-out}
 
 -- ---- lists

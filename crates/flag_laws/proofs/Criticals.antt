@@ -1,24 +1,21 @@
 -- The critical chains of a degree are the flags of the cells, in the order of their numbers; a full tower is no lower.
-use Rattle.std.proofs.Common.{◌≡◌, ◌≢◌, inl, inr, ℕ, zero, suc, ◌+◌, ◌-◌, ◌<◌, ◌≤◌, List, [], ◌∷◌, Bool, true, false, not, cond, ◌&&◌, map, filter, reverse, length, get_or, refl, ap, sym, ◌∙◌, subst, arith}
+use Rattle.std.proofs.Common.{◌≡◌, inl, inr, ℕ, suc, ◌+◌, ◌-◌, ◌<◌, ◌≤◌, List, [], ◌∷◌, Bool, true, false, not, cond, ◌&&◌, map, filter, reverse, length, get_or, refl, ap, sym, ◌∙◌, subst, arith}
 use Rattle.std.specs.List.{range_with_len}
-use Rattle.std.proofs.lemmas.Bool.{false_from_ne_true, false≢true}
 use Rattle.std.proofs.lemmas.List.{length-map, get_or-map, same_lists}
 use Rattle.number_lists.specs.Words.{upto, holds}
 use Rattle.number_lists.specs.Members.{In, here, there}
-use Rattle.number_lists.proofs.CallerLemmas.{map-In, In-holds, holds-In, In-upto, upto-In, In-inside, filter-In, at-In, holds-filter, length-upto, get_or-upto, AreDistinct, none, more, distinct-filter, distinct-range}
-use Rattle.face_poset.specs.Poset.{Layers, IsSpace, count}
-use Rattle.face_poset.specs.Below.{cell_at}
-use Rattle.face_poset.specs.declared.cells.Pair.{Pair}
-use Rattle.order_complex.specs.Chains.{id_of, chains_of}
+use Rattle.number_lists.proofs.CallerLemmas.{map-In, In-holds, holds-In, In-upto, upto-In, filter-In, holds-filter, length-upto, get_or-upto, AreDistinct, none, more, distinct-filter, distinct-range}
+use Rattle.face_poset.specs.Poset.{IsSpace, count}
+use Rattle.order_complex.specs.Chains.{chains_of}
 use Rattle.order_complex.specs.Complex.{complex_of}
 use Rattle.order_complex.specs.Laws.{FacesAreBelow, ChainsAreSequences}
 use Rattle.order_complex.proofs.CallerLemmas.{count-chains}
-use Rattle.regular_check.specs.Rules.{IsRegular}
-use Rattle.vector_field.specs.Pairs.{pair, Field, is_used, unpaired, critical_of, IsFieldOf}
+use Rattle.vector_field.specs.Pairs.{Field, is_used}
 use Rattle.vector_field.proofs.CallerLemmas.{critical-is, used-In}
 use Rattle.split_laws.specs.declared.kind.Kind.{Kind}
 use Rattle.split_laws.specs.declared.kind.Kind.TheVariants.{Critical, Lower, Upper}
 use Rattle.split_laws.specs.Kinds.{criticals, part, ZeroOnLowers}
+use Rattle.split_laws.proofs.CallerLemmas.{part-long}
 use Rattle.pair_stages.specs.Signed.{AreKinds, IsKind}
 use Rattle.local_field.specs.Buildings.{flag_of}
 use Rattle.local_field.specs.Numbered.{number_of, flag_numbers, IsLocalField}
@@ -153,3 +150,9 @@ module _ (space : List (List (List ℕ))) (valid : IsSpace space) (faces : Faces
         (λ i l. (let one : 1 + i ≡ i + 1 = omega arith in
         ap (holds (flag_numbers space d)) one ∙ (flag-unused (i + 1) (omega arith) (omega (arith, l, many)) ∙ kind-test (i + 1) (get_or ts i Critical) (kinds.each i (omega (arith, l, many))))))
         ∙ (ap (λ (n : ℕ). map h (filter (holds (flag_numbers space d)) (upto n))) many ∙ at-flags w))
+
+    -- as many as there are flags
+    pub many-critical : criticals ts ≡ length (flag_cells space d)
+    many-critical =
+        let C : List (List ℕ) = chains_of space d in
+        sym (part-long ts (map (λ c. 0) C) (length-map C (λ c. 0) ∙ sym kinds.long)) ∙ (ap (λ (xs : List ℕ). length xs) (part-flags (λ c. 0)) ∙ length-map (flag_cells space d) (λ n. 0))

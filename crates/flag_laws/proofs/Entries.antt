@@ -1,11 +1,11 @@
 -- The rows of the cells with their signs, numbered by their flags, entry by entry.
-use Rattle.std.proofs.Common.{◌≡◌, ℕ, zero, suc, ◌+◌, ◌-◌, ◌<◌, ◌≤◌, List, [], ◌∷◌, Bool, true, false, ◌&&◌, cond, map, filter, length, get_or, refl, ap, sym, ◌∙◌, arith}
-use Rattle.std.proofs.lemmas.List.{length-map, get_or-map}
+use Rattle.std.proofs.Common.{◌≡◌, ℕ, zero, suc, ◌+◌, ◌-◌, ◌<◌, ◌≤◌, List, [], Bool, true, false, ◌&&◌, cond, map, filter, length, get_or, refl, ap, ◌∙◌, arith}
+use Rattle.std.proofs.lemmas.List.{length-map}
 use Rattle.std.proofs.lemmas.List.FromFn.{length-map-range_with_len, get_or-map-range_with_len}
 use Rattle.small_field.specs.Field.{Ops}
 use Rattle.number_lists.specs.Words.{upto, holds}
-use Rattle.number_lists.proofs.CallerLemmas.{In-holds, In-upto, holds-filter, length-upto, get_or-upto}
-use Rattle.face_poset.specs.Poset.{Layers, count, facets_of}
+use Rattle.number_lists.proofs.CallerLemmas.{In-holds, In-upto, holds-filter, length-upto}
+use Rattle.face_poset.specs.Poset.{count, facets_of}
 use Rattle.pair_stages.specs.Signed.{sign_element, signed_entry}
 use Rattle.local_field.specs.Flags.{other_sign, is_odd, flag_negative, flag_cells, all_flag_cells, facets_at, minus_at, minus_of, renumbered, negative_in}
 

@@ -9,8 +9,7 @@ use Rattle.face_poset.specs.Poset.{Layers, facets_of}
 use Rattle.face_poset.specs.Signs.{sign_of, sum_to}
 use Rattle.cell_signs.specs.Oriented.{sum_over}
 use Rattle.pair_stages.specs.Signed.{sign_element}
-use Rattle.flag_laws.proofs.Sums.{summed, sum-below, sign-times}
-use Rattle.local_field.specs.Flags.{other_sign}
+use Rattle.flag_laws.proofs.Sums.{summed, sign-times}
 
 module _ (F : Ops) (L : IsField F) where
   times : ℕ → ℕ

@@ -1,5 +1,5 @@
 -- The reduced rows at the flags are those of the cells with their signs.
-use Rattle.std.proofs.Common.{◌≡◌, ◌≢◌, inl, inr, ℕ, zero, suc, ◌+◌, ◌-◌, ◌<◌, ◌≤◌, List, [], ◌∷◌, Bool, true, false, cond, map, reverse, length, replicate, get_or, refl, ap, sym, ◌∙◌, subst, arith}
+use Rattle.std.proofs.Common.{◌≡◌, ◌≢◌, ℕ, zero, suc, ◌+◌, ◌-◌, ◌<◌, ◌≤◌, List, [], ◌∷◌, Bool, true, false, cond, map, reverse, length, get_or, refl, ap, sym, ◌∙◌, subst, arith}
 use Rattle.std.specs.List.{AllByRecursion}
 use Rattle.std.proofs.lemmas.Bool.{false≢true}
 use Rattle.std.proofs.lemmas.List.{length-map, get_or-map, same_lists, reverse-reverse}
@@ -8,22 +8,21 @@ use Rattle.small_field.specs.Field.{Ops, IsField}
 use Rattle.small_field.specs.Values.{AreElements}
 use Rattle.small_field.proofs.CallerLemmas.{zero_below, mul_zero}
 use Rattle.linear_laws.specs.Marks.{mark as mark_at}
-use Rattle.linear_laws.specs.Vectors.{dot, boundary, combination, row_at, IsVector, IsMatrix}
-use Rattle.linear_laws.proofs.CallerLemmas.{dot_below, dot_unit, dot_mark, skip_left, skip_right, adjoint, combination-vector, mark_vector}
+use Rattle.linear_laws.specs.Vectors.{dot, boundary, combination, IsVector, IsMatrix}
+use Rattle.linear_laws.proofs.CallerLemmas.{dot_below, dot_unit, dot_mark, skip_left, skip_right, adjoint, combination-vector}
 use Rattle.number_lists.specs.Words.{upto, holds}
 use Rattle.number_lists.specs.Members.{In}
 use Rattle.number_lists.proofs.CallerLemmas.{holds-In, In-holds, at-In, distinct-at, length-upto}
-use Rattle.face_poset.specs.Poset.{Layers, IsSpace, count, facets_of}
-use Rattle.face_poset.specs.Below.{cell_at}
+use Rattle.face_poset.specs.Poset.{IsSpace, count, facets_of}
 use Rattle.face_poset.specs.declared.cells.Pair.{Pair}
 use Rattle.regular_check.specs.Rules.{IsRegular}
 use Rattle.regular_check.specs.Cycle.{CyclesGoRound}
-use Rattle.order_complex.specs.Chains.{id_of, chains_of}
+use Rattle.order_complex.specs.Chains.{chains_of}
 use Rattle.order_complex.specs.Cochains.{value, mark, coboundary_on}
 use Rattle.order_complex.specs.Complex.{number_or_zero}
 use Rattle.order_complex.specs.Laws.{FacesAreBelow, ChainsAreSequences, ChainsAreOrdered}
 use Rattle.order_complex.specs.Ranks.{rows_of}
-use Rattle.order_complex.proofs.CallerLemmas.{rows_on-matrix, length-rows_of}
+use Rattle.order_complex.proofs.CallerLemmas.{chains_of-four, rows_on-matrix, length-rows_of}
 use Rattle.cell_signs.specs.Oriented.{IsOriented}
 use Rattle.vector_field.specs.Pairs.{pair, Field}
 use Rattle.split_laws.specs.declared.kind.Kind.{Kind}
@@ -31,18 +30,18 @@ use Rattle.split_laws.specs.declared.kind.Kind.TheVariants.{Critical, Lower, Upp
 use Rattle.split_laws.specs.Kinds.{criticals, part, ZeroOnLowers, ZeroOnUppers}
 use Rattle.split_laws.specs.Solutions.{IsExtension, IsReducedBy}
 use Rattle.split_laws.proofs.CallerLemmas.{part-long, part-vector}
-use Rattle.pair_stages.specs.Signed.{sign_element, signed_entry, signed_rows, AreKinds, IsKind}
+use Rattle.pair_stages.specs.Signed.{sign_element, signed_entry, AreKinds, IsKind}
 use Rattle.local_field.specs.Buildings.{dim_at, flag_of}
 use Rattle.local_field.specs.Towers.{top_of}
-use Rattle.local_field.specs.Numbered.{number_of, local_pairs, IsLocalField}
+use Rattle.local_field.specs.Numbered.{local_pairs, IsLocalField}
 use Rattle.local_field.specs.Flags.{other_sign, is_odd, flag_negative, flag_cells, negative_in}
 use Rattle.local_field.proofs.CallerLemmas.{facet-range, dim-id, tower-chain, numbered-chain, tower-number, room, lower-short}
 use Rattle.flag_laws.specs.Laws.{flag_rows, FlagsReduceToCells}
 use Rattle.flag_laws.proofs.Sums.{summed, sum-zero, sum-one, mul_out, sign-below, sign-times, sign-twice}
 use Rattle.flag_laws.proofs.TowerSums.{over, FullAt, full-long, full-head, over-zero, below, flag-away, flag-at, facets-distinct}
-use Rattle.flag_laws.proofs.ChainSums.{same_one, same-here, same-apart, same-below, map-map, value-of, value-mark-below, full-chain, coefficient, coefficient-below, boundary-sum}
-use Rattle.flag_laws.proofs.Criticals.{zero-at, map-same, cells-distinct, cell-there, part-flags}
-use Rattle.flag_laws.proofs.Entries.{sp, minus, at, count-flags, sign_at, given, entry-is}
+use Rattle.flag_laws.proofs.ChainSums.{same_one, same-here, same-apart, same-below, map-map, value-of, value-mark-below, full-chain, coefficient, boundary-sum}
+use Rattle.flag_laws.proofs.Criticals.{zero-at, map-same, cells-distinct, cell-there, part-flags, many-critical}
+use Rattle.flag_laws.proofs.Entries.{sp, minus, count-flags, entry-is}
 
 turned-same : (s t : List ℕ) → reverse s ≡ reverse t → s ≡ t
 turned-same s t e = sym (reverse-reverse s) ∙ (ap (λ (xs : List ℕ). reverse xs) e ∙ reverse-reverse t)
@@ -195,14 +194,10 @@ module _ (rounds : CyclesGoRound) (faces : FacesAreBelow) (sequences : ChainsAre
       low = omega (arith, small)
 
       many-below : criticals ts ≡ length (flag_cells space d)
-      many-below =
-          sym (part-long ts (map (λ c. 0) C) (length-map C (λ c. 0) ∙ sym kinds.long))
-          ∙ (ap (λ (xs : List ℕ). length xs) (part-flags space valid faces sequences d low field local ts kinds (λ c. 0)) ∙ length-map (flag_cells space d) (λ n. 0))
+      many-below = many-critical space valid faces sequences d low field local ts kinds
 
       many-above : criticals us ≡ length (flag_cells space (suc d))
-      many-above =
-          sym (part-long us (map (λ c. 0) N) (length-map N (λ c. 0) ∙ sym next.long))
-          ∙ (ap (λ (xs : List ℕ). length xs) (part-flags space valid faces sequences (suc d) small field local us next (λ c. 0)) ∙ length-map (flag_cells space (suc d)) (λ n. 0))
+      many-above = many-critical space valid faces sequences (suc d) small field local us next
 
       -- ---- the sum of the full towers of a cell, with 1 at its flag
 
@@ -327,3 +322,29 @@ module _ (rounds : CyclesGoRound) (faces : FacesAreBelow) (sequences : ChainsAre
                 ∙ any-default (part us (combination F (length N) x rows)) j 0 dj
                 (omega (arith, lj, part-long us (combination F (length N) x rows) ((combination-vector F L (length N) x rows (rows_on-matrix F L C N)).long ∙ sym next.long)))))));
           }
+
+    -- the last degree: there is no chain above
+    last-reduced : (ts us : List Kind) → AreKinds field.pairs 3 (length (chains_of space 3)) ts → length us ≡ 0
+        → IsReducedBy F (length (chains_of space 3)) (length (chains_of space 4)) (rows_of F space 3) ts us (flag_rows F space negative 3)
+    last-reduced ts (u ∷ us) kinds l = absurd (omega (arith, l))
+    last-reduced ts [] kinds l =
+        let nothing : ℕ → List ℕ = λ lower. [] in
+        let below : ℕ = count (sp space negative) 3 in
+        let e : below ≡ criticals ts = count-flags space negative 3 (omega arith) ∙ sym (many-critical space valid faces sequences 3 (omega arith) field local ts kinds) in
+        record {
+          matrix = all-map (IsVector F 0) (λ lower. []) (λ lower. record { long = refl; elements = tt }) (upto below);
+          long = length-map (upto below) (λ lower. []) ∙ (length-upto below ∙ e);
+          each = λ i x li h. get_or-map nothing (upto below) i 0 [] (omega (arith, li, e, length-upto below));
+        }
+
+    pub every-degree : (d : ℕ) (ts us : List Kind) → d ≤ 3 → AreKinds field.pairs d (length (chains_of space d)) ts → AreKinds field.pairs (suc d) (length (chains_of space (suc d))) us
+        → IsReducedBy F (length (chains_of space d)) (length (chains_of space (suc d))) (rows_of F space d) ts us (flag_rows F space negative d)
+    every-degree zero ts us small kinds next = reduced 0 (omega arith) ts us kinds next
+    every-degree (suc zero) ts us small kinds next = reduced 1 (omega arith) ts us kinds next
+    every-degree (suc (suc zero)) ts us small kinds next = reduced 2 (omega arith) ts us kinds next
+    every-degree (suc (suc (suc zero))) ts us small kinds next = last-reduced ts us kinds (next.long ∙ ap (λ (cs : List (List ℕ)). length cs) (chains_of-four space))
+    every-degree (suc (suc (suc (suc d)))) ts us small kinds next = absurd (omega (arith, small))
+
+pub flags_reduce : CyclesGoRound → FacesAreBelow → ChainsAreSequences → ChainsAreOrdered → (F : Ops) → IsField F → FlagsReduceToCells F
+flags_reduce rounds faces sequences ordered F L space negative field degree kinds next valid regular oriented local small now above =
+    every-degree rounds faces sequences ordered space valid regular field local F L negative oriented degree kinds next small now above

@@ -1,10 +1,10 @@
 -- Sums over lists in a field, and signs as elements.
-use Rattle.std.proofs.Common.{◌≡◌, ◌≢◌, inl, inr, ℕ, ◌<◌, List, [], ◌∷◌, Bool, true, false, not, cond, map, filter, refl, ap, sym, ◌∙◌, subst}
+use Rattle.std.proofs.Common.{◌≡◌, ◌≢◌, inl, inr, ℕ, ◌<◌, List, [], ◌∷◌, Bool, true, false, cond, map, filter, refl, ap, sym, ◌∙◌, subst}
 use Rattle.small_field.specs.Field.{Ops, IsField}
 use Rattle.small_field.proofs.CallerLemmas.{zero_below, add_zero, mul_zero, zero_mul, add_swap, add_mul, neg_neg, neg_mul}
 use Rattle.linear_laws.specs.Vectors.{dot}
 use Rattle.number_lists.specs.Members.{In, here, there}
-use Rattle.number_lists.proofs.CallerLemmas.{In-cases, AreDistinct, none, more}
+use Rattle.number_lists.proofs.CallerLemmas.{In-cases, AreDistinct, more}
 use Rattle.pair_stages.specs.Signed.{sign_element}
 use Rattle.local_field.specs.Flags.{other_sign}
 

@@ -1,21 +1,20 @@
 -- Sums over the full towers of a cell, each with the product of the signs of its steps, and what is left of them with
 -- one cell left out.
-use Rattle.std.proofs.Common.{◌≡◌, ◌≢◌, ℕ, zero, suc, ◌+◌, ◌-◌, ◌<◌, ◌≤◌, List, [], ◌∷◌, Bool, true, false, cond, length, filter, get_or, refl, ap, sym, ◌∙◌, subst, arith}
+use Rattle.std.proofs.Common.{◌≡◌, ◌≢◌, ℕ, zero, suc, ◌<◌, ◌≤◌, List, [], ◌∷◌, Bool, true, false, cond, length, filter, get_or, refl, ap, sym, ◌∙◌, subst, arith}
 use Rattle.small_field.specs.Field.{Ops, IsField}
-use Rattle.small_field.proofs.CallerLemmas.{zero_below, mul_zero, zero_mul}
+use Rattle.small_field.proofs.CallerLemmas.{mul_zero, zero_mul}
 use Rattle.number_lists.specs.Words.{upto, holds}
 use Rattle.number_lists.specs.Members.{In}
 use Rattle.number_lists.proofs.CallerLemmas.{members_sorted, AreDistinct, distinct-filter, distinct-range, holds-In}
 use Rattle.face_poset.specs.Poset.{Layers, IsSpace, IsCell, count, facets_of}
 use Rattle.face_poset.specs.Below.{cell_at}
-use Rattle.face_poset.specs.Signs.{SignsCancel}
 use Rattle.order_complex.specs.Chains.{id_of}
 use Rattle.cell_signs.specs.Oriented.{IsOriented}
 use Rattle.pair_stages.specs.Signed.{sign_element}
 use Rattle.local_field.specs.Buildings.{flag_of}
 use Rattle.local_field.specs.Flags.{is_odd, flag_negative}
 use Rattle.local_field.proofs.CallerLemmas.{facets-cell, facet-range, first-In, id-same}
-use Rattle.flag_laws.proofs.Sums.{summed, sum-below, sum-same, sum-zero, sum-plus, sum-times, sum-by, sum-swap, sum-filter, sum-one, mul_out, sign-below, sign-times}
+use Rattle.flag_laws.proofs.Sums.{summed, sum-below, sum-same, sum-zero, sum-plus, sum-times, sum-by, sum-swap, sum-filter, sum-one, mul_out, sign-times}
 use Rattle.flag_laws.proofs.Integers.{signs-cancel, way, ways-cancel}
 
 -- the sum of h over the full towers of a cell, with their signs

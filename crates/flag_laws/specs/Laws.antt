@@ -4,7 +4,7 @@
 --   by_flags space                        the cells in the order of the numbers of their flags, by dimension
 --   flag_rows F space negative degree     the rows of the cells with their signs, numbered by their flags
 --   FlagsReduceToCells F                  these are the reduced rows of the chains
-use Rattle.std.specs.Prelude.{◌≡◌, ℕ, suc, ◌≤◌, List, Bool, length}
+use Rattle.std.specs.Prelude.{ℕ, suc, ◌≤◌, List, Bool, length}
 use Rattle.face_poset.specs.Poset.{Layers, IsSpace}
 use Rattle.small_field.specs.Field.{Ops}
 use Rattle.vector_field.specs.Pairs.{Field}

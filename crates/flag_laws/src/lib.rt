@@ -10,6 +10,7 @@
 ghost use Rattle.flag_laws.specs.Laws.{FlagsReduceToCells};
 
 use order_complex::{chains_are_ordered, chains_are_sequences, faces_are_below};
+use regular_check::cycles_go_round;
 use small_field::Field;
 
 /// The reduced rows of the chains, with the kinds that the pairs inside all cells give them, are the rows of the
@@ -17,6 +18,7 @@ use small_field::Field;
 pub fn flags_reduce_to_cells<F: Field>()
     ensures { FlagsReduceToCells F.ops }
 {
+    cycles_go_round();
     faces_are_below();
     chains_are_sequences();
     chains_are_ordered();
