@@ -50,12 +50,12 @@ orders_regular v space e = from_order (order_of v) e
 
 module _ (n : ℕ) (relations : List (ℕ × ℕ)) (are : AreRelations n relations) where
   -- one relation, and others after it
-  record IsLed (k a b : ℕ) : Type 0 where
+  pub record IsLed (k a b : ℕ) : Type 0 where
     pub next : ℕ
     pub among : In (a, next) relations
     pub on : (next ≡ b) ⊎ (leads k relations next b ≡ true)
 
-  led : (k a b : ℕ) → leads (suc k) relations a b ≡ true → IsLed k a b
+  pub led : (k a b : ℕ) → leads (suc k) relations a b ≡ true → IsLed k a b
   led k a b h =
       let r = any-some (λ r. (r.0 == a) && ((r.1 == b) || leads k relations r.1 b)) relations h in
       let p : ℕ × ℕ = r.0 in
@@ -70,7 +70,7 @@ module _ (n : ℕ) (relations : List (ℕ × ℕ)) (are : AreRelations n relatio
       either {c} true e q = inl (eqb-true c b e)
       either {c} false e q = inr q
 
-  lead : (k a b c : ℕ) → In (a, c) relations → (c ≡ b) ⊎ (leads k relations c b ≡ true) → leads (suc k) relations a b ≡ true
+  pub lead : (k a b c : ℕ) → In (a, c) relations → (c ≡ b) ⊎ (leads k relations c b ≡ true) → leads (suc k) relations a b ≡ true
   lead k a b c i h = any-In (λ r. (r.0 == a) && ((r.1 == b) || leads k relations r.1 b)) i (and_from (a == a) ((c == b) || leads k relations c b) (eq-eqb a a refl) (either h))
     where
       either : (c ≡ b) ⊎ (leads k relations c b ≡ true) → ((c == b) || leads k relations c b) ≡ true
@@ -81,13 +81,13 @@ module _ (n : ℕ) (relations : List (ℕ × ℕ)) (are : AreRelations n relatio
           by_test true q = refl
           by_test false q = q
 
-  leads-below : (k a b : ℕ) → leads k relations a b ≡ true → IsBelow relations a b
+  pub leads-below : (k a b : ℕ) → leads k relations a b ≡ true → IsBelow relations a b
   leads-below zero a b h = absurd (false≢true h)
   leads-below (suc k) a b h =
       let r = led k a b h in
       elim r.on [ inl e ↦ given (subst (λ (x : ℕ). In (a, x) relations) e r.among) | inr q ↦ through (given r.among) (leads-below k r.next b q) ]
 
-  rises : {a b : ℕ} → IsBelow relations a b → (1 ≤ a) × (a < b) × (b ≤ n)
+  pub rises : {a b : ℕ} → IsBelow relations a b → (1 ≤ a) × (a < b) × (b ≤ n)
   rises (given {a} {b} i) = are a b i
   rises (through {a} {b} {c} h k) = let p = rises h in let q = rises k in (p.0, omega (arith, p.1, q.1), q.2)
 
@@ -101,7 +101,7 @@ module _ (n : ℕ) (relations : List (ℕ × ℕ)) (are : AreRelations n relatio
       lead m a b r.next r.among (elim r.on [ inl e ↦ inl e | inr q ↦ inr (enough k m r.next b q (omega (arith, l, p.1))) ])
 
   -- more may be used than are needed
-  larger : (m j a b : ℕ) → leads m relations a b ≡ true → m ≤ j → leads j relations a b ≡ true
+  pub larger : (m j a b : ℕ) → leads m relations a b ≡ true → m ≤ j → leads j relations a b ≡ true
   larger zero j a b h l = absurd (false≢true h)
   larger (suc m) zero a b h l = absurd (omega (arith, l))
   larger (suc m) (suc j) a b h l =
@@ -120,7 +120,7 @@ module _ (n : ℕ) (relations : List (ℕ × ℕ)) (are : AreRelations n relatio
           let t : leads m relations x c ≡ true = subst (λ (y : ℕ). leads m relations y c ≡ true) (sym s) q in
           larger m (k + m) x c t (omega arith)
 
-  below-leads : {a b : ℕ} → IsBelow relations a b → leads n relations a b ≡ true
+  pub below-leads : {a b : ℕ} → IsBelow relations a b → leads n relations a b ≡ true
   below-leads (given {a} {b} i) = let p = are a b i in enough 1 n a b (lead 0 a b b i (inl refl)) (omega (arith, p.2))
   below-leads (through {a} {b} {c} h k) = let q = rises k in enough (n + n) n a c (joined n n a b c (below-leads h) (below-leads k)) (omega (arith, q.2))
 

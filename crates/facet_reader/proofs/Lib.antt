@@ -15,3 +15,7 @@ mod ComplexExamples
 mod Numbering
 mod ChainLemmas
 mod OrderExamples
+mod OrderLemmas
+mod AboveLemmas
+mod ChainPlaces
+mod WholeOrder

@@ -88,7 +88,7 @@ made-more k high row i =
 long : (k : ℕ) (row t : List ℕ) → In t (choices k row) → length t ≡ k
 long k row t i = (choice-part k t row i).1
 
-place-front : (k high x : ℕ) (t : List ℕ) → length t ≡ k → high * 65536 ^ suc k + place_of (x ∷ t) ≡ (high * 65536 + x) * 65536 ^ k + place_of t
+pub place-front : (k high x : ℕ) (t : List ℕ) → length t ≡ k → high * 65536 ^ suc k + place_of (x ∷ t) ≡ (high * 65536 + x) * 65536 ^ k + place_of t
 place-front k high x t e = ap (λ (n : ℕ). high * 65536 ^ suc k + (x * 65536 ^ n + place_of t)) e ∙ digit-front high x k (place_of t)
 
 pub made-head : (k high : ℕ) (row : List ℕ) (j z : ℕ) → j < length row → In z (made_at k high row j) → In z (made_by (suc k) high row)

@@ -1,5 +1,5 @@
 -- What the contracts mean: SetSpaces, Labels, Simplices, Orders and OrderLaws.
--- What the code keeps for itself: Places.
+-- What the code keeps for itself: Places and Chains.
 -- Words of lower crates that these speak of stand at the end.
 pub mod SetSpaces
 pub mod Labels
@@ -7,6 +7,7 @@ pub mod Simplices
 pub mod Orders
 pub mod OrderLaws
 pub mod Places
+pub mod Chains
 pub use Rattle.regular_check.specs.Rules
 pub use Rattle.face_poset.specs.Poset
 pub use Rattle.number_lists.specs.Words

@@ -58,7 +58,7 @@ fn row_shape(nest: &Nest) -> Option<u32>
 }
 
 /// The place of the first of the items that is a list, or that of the list of them where there is none.
-fn find_list(place: u32, items: &Items) -> Option<u32>
+pub(crate) fn find_list(place: u32, items: &Items) -> Option<u32>
     ensures { result ≡ unless_empty place items.now }
 {
     if items.len() == 0 {
