@@ -9,7 +9,7 @@ use Rattle.small_field.specs.Field.{Ops, IsField}
 use Rattle.linear_laws.specs.Betti.{IsCohomologyBasis}
 use Rattle.linear_laws.specs.Echelon.{rank_of, IsReducedTo}
 use Rattle.linear_laws.specs.Marks.{mark}
-use Rattle.linear_laws.specs.Vectors.{boundary, dot, row_at}
+use Rattle.linear_laws.specs.Vectors.{boundary, combination, dot, row_at, IsInKernel}
 use Rattle.linear_laws.proofs.CallerLemmas.{length-mark, same_or_not, zeros-elements}
 use Rattle.field_matrix.specs.Rows.{Rows}
 use Rattle.field_matrix.specs.declared.history.Elimination.{Elimination}
@@ -23,7 +23,7 @@ use Rattle.split_laws.specs.Solutions.{AreExtensions, AreFlows, IsExtension, IsF
 use Rattle.critical_complex.specs.Levels.{Level, cells_at, kinds_at, rows_at}
 use Rattle.critical_complex.specs.Complex.{IsReducedComplex}
 use Rattle.chain_laws.specs.Lines.{cochain_in, cochain_of, AreEntries}
-use Rattle.chain_laws.specs.AllLines.{Line, left_sides, right_sides, lines_of, ArePaired, IsClassLine}
+use Rattle.chain_laws.specs.AllLines.{Line, left_sides, right_sides, coboundary_in, lines_of, ArePaired, IsClassLine}
 use Rattle.cohomology.specs.Bases.{cells_with, rows_with, kinds_with, AreClasses, HaveSides, IsFormInto, IsReducedFrom}
 use Rattle.cohomology.specs.Echelons.{AreRowsOf, IsEchelon}
 use Rattle.cohomology.proofs.ClassLemmas.{reduced_index}
@@ -148,6 +148,23 @@ module _ (F : Ops) (L : IsField F) (one : SolutionsAreOne F) (combine : Solution
     basis =
         subst (λ k. IsBasis F space degree (map (cochain_of k) (left_sides lines))) n_is
         (basis_on_chains F L space levels R rows_are degree small xs on_rows)
+
+    -- ---- cocycles
+
+    cocycles_from : (lefts : List (List (ℕ × ℕ))) → AllByRecursion (IsInKernel F (cells_at levels (suc degree)) (rows_at levels degree)) (map (cochain_of n) lefts)
+        → AllByRecursion (λ left. coboundary_in F space degree left ≡ replicate (length (chains_of space (suc degree))) 0) lefts
+    cocycles_from [] h = tt
+    cocycles_from (left ∷ lefts) h = (
+      sym
+          (ap (λ k. combination F k (cochain_of n left) (rows_at levels degree)) (cells_are F L space levels R rows_are (suc degree) (omega (arith, small)))
+          ∙ ap (λ k. combination F (length (chains_of space (suc degree))) (cochain_of k left) (rows_at levels degree)) n_is
+          ∙ ap (combination F (length (chains_of space (suc degree))) (cochain_in space degree left)) (rows_are degree small))
+          ∙ h.0.zero ∙ ap (λ k. replicate k 0) (cells_are F L space levels R rows_are (suc degree) (omega (arith, small))),
+      cocycles_from lefts h.1,
+    )
+
+    pub cocycles : AllByRecursion (λ left. coboundary_in F space degree left ≡ replicate (length (chains_of space (suc degree))) 0) (left_sides lines)
+    cocycles = cocycles_from (left_sides lines) on_rows.cocycles
 
     -- ---- cycles
 

@@ -5,9 +5,14 @@ mod Cohomology
 mod Completing
 mod Complexes
 mod Duals
+mod Fitting
+mod RankHomology
+mod RankTriangles
 mod Ranked
+mod ReducedLines
 mod ReducedRows
 mod RowSteps
 mod SignedRows
+mod Spreading
 mod Sweeping
 mod Triangles

@@ -7,7 +7,9 @@
 --   parts_at levels degree xs                the values of some of these at the critical cells
 --   AreCocycleBases F space classes          in each degree the left sides are a basis of the cocycles modulo coboundaries
 --   HaveDualCycles F space classes           the right sides are cycles; each left side is 1 on its own and 0 on the others
---   HaveClassSides F space classes           the sides have entries at the chains of their degree
+--   HomologyLines                            rank lines and class lines, by degree
+--   rank_lists, class_lists, lists_in lines  what contracts see of the lines of all degrees
+--   HaveSidesInRange F space lines           the sides of all lines have entries at the chains of their degrees
 --   AreExtended F levels classes             the left sides are the extensions of their values at the critical cells
 --   AreFlowed F levels classes               the right sides are the flows of their values there
 --   AreOfCritical F levels classes           the values of the left sides there are a basis of the cohomology of the reduced rows
@@ -21,7 +23,7 @@
 --                                            the lines for the first rows of `others` and vectors that are dual to them
 --   AreClasses F levels degree lines         lines for a basis of the cohomology of the reduced rows, and for cycles of these that are
 --                                            dual to the basis
-use Rattle.std.specs.Prelude.{◌≡◌, ◌≢◌, ℕ, suc, ◌<◌, ◌≤◌, List, [], length, map, replicate, slice_index_or, take}
+use Rattle.std.specs.Prelude.{◌≡◌, ◌≢◌, ℕ, suc, ◌<◌, ◌≤◌, List, [], ◌∷◌, length, map, replicate, slice_index_or, take}
 use Rattle.std.specs.List.{AllByRecursion}
 use Rattle.face_poset.specs.Poset.{Layers}
 use Rattle.small_field.specs.Field.{Ops}
@@ -38,7 +40,10 @@ use Rattle.critical_complex.specs.Levels.{Level, cells_at, kinds_at, rows_at}
 use Rattle.order_complex.specs.Homology.{IsBasis}
 use Rattle.order_complex.specs.Ranks.{rows_into}
 use Rattle.chain_laws.specs.Lines.{AreEntries, cochain_in, cochain_of}
-use Rattle.chain_laws.specs.AllLines.{Line, left_sides, right_sides, lines_of, ArePaired, IsClassLine}
+use Rattle.chain_laws.specs.AllLines.{Line, left_sides, right_sides, lines_of, ArePaired, HaveEntries}
+use Rattle.cohomology.specs.declared.lists.ClassLines.{ClassLines}
+use Rattle.cohomology.specs.declared.lists.Lines.{Lines}
+use Rattle.cohomology.specs.declared.lists.RankLines.{RankLines}
 use Rattle.cohomology.specs.Swept.{ArePivots, IsDual}
 
 abbrev pub cells_with : List Level → (index : ℕ) → ℕ
@@ -92,6 +97,21 @@ pub record AreClasses (F : Ops) (levels : List Level) (degree : ℕ) (lines : Li
   pub own : (place : ℕ) → place < length zs → dot F (row_at zs place) (row_at vs place) ≡ 1
   pub apart : (place other : ℕ) → place < length zs → other < length zs → other ≢ place → dot F (row_at zs other) (row_at vs place) ≡ 0
 
+-- ---- the lines of all degrees
+
+pub record HomologyLines : Type 0 where
+  pub ranks : List (List Line)
+  pub classes : List (List Line)
+
+abbrev pub rank_lists : RankLines → List (List Line)
+rank_lists lines = lines.zero.items ∷ lines.one.items ∷ lines.two.items ∷ []
+
+abbrev pub class_lists : ClassLines → List (List Line)
+class_lists lines = lines.zero.items ∷ lines.one.items ∷ lines.two.items ∷ lines.three.items ∷ []
+
+abbrev pub lists_in : Lines → HomologyLines
+lists_in lines = record { ranks = rank_lists lines.ranks; classes = class_lists lines.classes }
+
 -- ---- what is said of the class lines of the degrees from 0 to 3
 
 abbrev pub lefts_at : List Level → (degree : ℕ) → List (List Line) → List (List ℕ)
@@ -114,8 +134,8 @@ pub record AreDualCycles (F : Ops) (space : Layers) (degree : ℕ) (lines : List
 abbrev pub HaveDualCycles : Ops → Layers → List (List Line) → Type 0
 HaveDualCycles F space classes = (degree : ℕ) → degree ≤ 3 → AreDualCycles F space degree (lines_of classes degree)
 
-abbrev pub HaveClassSides : Ops → Layers → List (List Line) → Type 0
-HaveClassSides F space classes = (degree : ℕ) → degree ≤ 3 → AllByRecursion (IsClassLine F space degree) (lines_of classes degree)
+abbrev pub HaveSidesInRange : Ops → Layers → HomologyLines → Type 0
+HaveSidesInRange F space lines = HaveEntries F space lines.ranks lines.classes
 
 abbrev pub AreExtended : Ops → List Level → List (List Line) → Type 0
 AreExtended F levels classes =
@@ -137,3 +157,6 @@ no_line = record { left = []; right = [] }
 
 abbrev pub line_at : List (List Line) → (degree index : ℕ) → Line
 line_at classes degree index = slice_index_or (lines_of classes degree) index no_line
+
+abbrev pub AreAllClasses : Ops → List Level → ClassLines → Type 0
+AreAllClasses F levels lines = (degree : ℕ) → degree ≤ 3 → AreClasses F levels degree (lines_of (class_lists lines) degree)

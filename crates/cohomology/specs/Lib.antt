@@ -1,8 +1,9 @@
 -- What the contracts mean: Echelons, and the first part of Bases.
--- What the code keeps for itself: Swept, and the rest of Bases.
+-- What the code keeps for itself: Swept, RankLines, and the rest of Bases.
 -- Words of lower crates that these speak of stand at the end.
 pub mod Echelons
 pub mod Bases
+pub mod RankLines
 pub mod Swept
 pub use Rattle.chain_laws.specs.Lines
 pub use Rattle.chain_laws.specs.AllLines
