@@ -107,3 +107,38 @@ fn plane_has_one_class_modulo_three(rt: HostRuntime) -> Result<(), Fail> {
     assert!(rt; found.bases.classes(2).len() == 0);
     Ok(())
 }
+
+#[test]
+fn circle_has_no_other_lines_than_these(rt: HostRuntime) -> Result<(), Fail> {
+    let found = modulo_three(rt.alloc(), CIRCLE)?;
+    assert!(rt; found.bases.ranks(0).len() == 3);
+    assert!(rt; found.bases.ranks(1).len() == 0);
+    assert!(rt; found.bases.ranks(2).len() == 0);
+    Ok(())
+}
+
+#[test]
+fn lines_are_given_up(rt: HostRuntime) -> Result<(), Fail> {
+    let found = modulo_three(rt.alloc(), CIRCLE)?;
+    let lines = found.bases.into_lines();
+    assert!(rt; lines.ranks.zero.len() == 3);
+    assert!(rt; lines.classes.zero.len() == 1);
+    assert!(rt; lines.classes.one.len() == 1);
+    Ok(())
+}
+
+#[test]
+fn plane_has_rank_lines_modulo_two(rt: HostRuntime) -> Result<(), Fail> {
+    let found = modulo_two(rt.alloc(), PLANE)?;
+    assert!(rt; found.bases.ranks(0).len() == 12);
+    assert!(rt; found.bases.ranks(1).len() == 23);
+    Ok(())
+}
+
+#[test]
+fn plane_has_a_rank_line_more_modulo_three(rt: HostRuntime) -> Result<(), Fail> {
+    let found = modulo_three(rt.alloc(), PLANE)?;
+    assert!(rt; found.bases.ranks(0).len() == 12);
+    assert!(rt; found.bases.ranks(1).len() == 24);
+    Ok(())
+}
