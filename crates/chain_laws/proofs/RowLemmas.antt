@@ -119,6 +119,7 @@ module _ (F : Ops) (L : IsField F) where
     pub values_fit_entries : ValuesFitEntries F
     values_fit_entries = record {
       entries_of = entries_of;
+      coboundary_by = λ space degree x v. coboundary_rows A space degree x v;
       coboundary_of = λ space degree entries h. coboundary_rows A space degree (cochain_in space degree entries) (cochain-vector F L (length (chains_of space degree)) entries h);
       coboundary_into = coboundary_into;
       boundary_of = boundary_of;

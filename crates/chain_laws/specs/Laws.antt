@@ -17,7 +17,7 @@ use Rattle.order_complex.specs.Chains.{chains_of}
 use Rattle.order_complex.specs.Cochains.{boundary_on, coboundary, coboundary_on}
 use Rattle.order_complex.specs.Cup.{IsProduct, cup_at}
 use Rattle.order_complex.specs.Homology.{IsCocycle, IsClass}
-use Rattle.order_complex.specs.Ranks.{rows_into}
+use Rattle.order_complex.specs.Ranks.{rows_into, rows_of}
 use Rattle.chain_laws.specs.Lines.{AreEntries, chains_below, cochain_of, cochain_in, value_on, rank_holds, cocycle_holds, cycle_holds, pairing_holds, product_holds, class_holds}
 use Rattle.chain_laws.specs.AllLines.{Line, homology_holds, coboundary_in, HaveEntries, AreHomology}
 use Rattle.small_field.specs.Sparse.{IsSparse}
@@ -70,6 +70,8 @@ pub record TestsAreEquations (F : Ops) : Type 0 where
 pub record ValuesFitEntries (F : Ops) : Type 0 where
   -- the entries of a list of elements stand at its places
   pub entries_of : (xs : List ℕ) → AreElements F xs → IsSparse (entries_from 1 xs) → AreEntries F (length xs) (entries_from 1 xs)
+  -- the coboundary of a cochain, by rows
+  pub coboundary_by : (space : Layers) (degree : ℕ) (x : List ℕ) → IsVector F (length (chains_of space degree)) x → coboundary F space degree x ≡ combination F (length (chains_of space (suc degree))) x (rows_of F space degree)
   -- the coboundary of a cochain of the degree
   pub coboundary_of : (space : Layers) (degree : ℕ) (entries : List (ℕ × ℕ)) → AreEntries F (length (chains_of space degree)) entries → coboundary F space degree (cochain_in space degree entries) ≡ coboundary_in F space degree entries
   -- the coboundary, into the degree, of a cochain of one degree less; zero in degree 0

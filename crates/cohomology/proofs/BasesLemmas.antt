@@ -62,7 +62,7 @@ module _ (F : Ops) where
   extensions_long n m rows ts us (w ∷ ws) [] h = absurd h
   extensions_long n m rows ts us (w ∷ ws) (x ∷ xs) h = ap suc (extensions_long n m rows ts us ws xs h.1)
 
-  extension_at : (n m : ℕ) (rows : List (List ℕ)) (ts us : List Kind) (ws xs : List (List ℕ)) (i : ℕ) → AreExtensions F n m rows ts us ws xs → i < length xs → IsExtension F n m rows ts us (row_at ws i) (row_at xs i)
+  pub extension_at : (n m : ℕ) (rows : List (List ℕ)) (ts us : List Kind) (ws xs : List (List ℕ)) (i : ℕ) → AreExtensions F n m rows ts us ws xs → i < length xs → IsExtension F n m rows ts us (row_at ws i) (row_at xs i)
   extension_at n m rows ts us [] [] i h l = absurd (omega (arith, l))
   extension_at n m rows ts us [] (x ∷ xs) i h l = absurd h
   extension_at n m rows ts us (w ∷ ws) [] i h l = absurd h
@@ -81,7 +81,7 @@ module _ (F : Ops) where
   flows_long n m rows ts us (w ∷ ws) [] h = absurd h
   flows_long n m rows ts us (w ∷ ws) (x ∷ xs) h = ap suc (flows_long n m rows ts us ws xs h.1)
 
-  flow_at : (n m : ℕ) (rows : List (List ℕ)) (ts us : List Kind) (ws xs : List (List ℕ)) (i : ℕ) → AreFlows F n m rows ts us ws xs → i < length xs → IsFlow F n m rows ts us (row_at ws i) (row_at xs i)
+  pub flow_at : (n m : ℕ) (rows : List (List ℕ)) (ts us : List Kind) (ws xs : List (List ℕ)) (i : ℕ) → AreFlows F n m rows ts us ws xs → i < length xs → IsFlow F n m rows ts us (row_at ws i) (row_at xs i)
   flow_at n m rows ts us [] [] i h l = absurd (omega (arith, l))
   flow_at n m rows ts us [] (x ∷ xs) i h l = absurd h
   flow_at n m rows ts us (w ∷ ws) [] i h l = absurd h

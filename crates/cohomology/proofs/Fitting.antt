@@ -13,7 +13,7 @@ use Rattle.chain_laws.specs.Lines.{cochain_of, element_at}
 abbrev InRange : ℕ → ℕ × ℕ → Type 0
 InRange n e = (1 ≤ e.0) × (e.0 ≤ n)
 
-filled_long : (n : ℕ) (es : List (ℕ × ℕ)) → length (filled n es) ≡ n
+pub filled_long : (n : ℕ) (es : List (ℕ × ℕ)) → length (filled n es) ≡ n
 filled_long n [] = length-replicate n 0
 filled_long n (e ∷ es) = length-set (filled n es) (e.0 - 1) e.1 ∙ filled_long n es
 

@@ -5,6 +5,7 @@ mod Cohomology
 mod Completing
 mod Complexes
 mod Duals
+mod Entered
 mod Fitting
 mod RankHomology
 mod RankTriangles
@@ -16,3 +17,4 @@ mod SignedRows
 mod Spreading
 mod Sweeping
 mod Triangles
+mod Writing

@@ -73,7 +73,7 @@ from_nonzero P (w ∷ rows) z a = by_test (is_nonzero w) refl a (from_nonzero P 
     by_test false e h more = (z w e, more h)
 
 module _ (F : Ops) (L : IsField F) (n r : ℕ) (last form : List (List ℕ)) (matrix : IsMatrix F n last) (h : IsReducedTo F n r n (nonzero_rows last) form) where
-  with_vectors : (rows : List (List ℕ)) → IsMatrix F n rows → (ws : List (List ℕ)) → IsMatrix F n ws → AllByRecursion (InSpan F n rows) (nonzero_rows ws) → AllByRecursion (InSpan F n rows) ws
+  pub with_vectors : (rows : List (List ℕ)) → IsMatrix F n rows → (ws : List (List ℕ)) → IsMatrix F n ws → AllByRecursion (InSpan F n rows) (nonzero_rows ws) → AllByRecursion (InSpan F n rows) ws
   with_vectors rows m [] a k = tt
   with_vectors rows m (w ∷ ws) a k = by_test (is_nonzero w) refl k (with_vectors rows m ws a.1)
     where

@@ -1,9 +1,10 @@
--- What the contracts mean: Echelons, and the first part of Bases.
+-- What the contracts mean: Echelons, the first part of Bases, and Written.
 -- What the code keeps for itself: Swept, RankLines, and the rest of Bases.
 -- Words of lower crates that these speak of stand at the end.
 pub mod Echelons
 pub mod Bases
 pub mod RankLines
+pub mod Written
 pub mod Swept
 pub use Rattle.chain_laws.specs.Lines
 pub use Rattle.chain_laws.specs.AllLines

@@ -7,12 +7,15 @@
 mod bases;
 mod classes;
 mod echelons;
+mod entries;
 mod line;
 mod lists;
 mod ranks;
 mod rows;
+mod written;
 
 pub use bases::Bases;
 pub use echelons::{Echelons, reductions_have_rows};
 pub use line::Line;
 pub use lists::{ClassLines, Lines, RankLines};
+pub use written::Written;
