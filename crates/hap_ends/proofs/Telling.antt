@@ -7,11 +7,13 @@ use Rattle.face_poset.specs.declared.fault.SpaceFault.{SpaceFault}
 use Rattle.face_poset.specs.declared.fault.SpaceFault.TheVariants as in_space
 use Rattle.array_values.specs.declared.fault.ArrayFault.{ArrayFault}
 use Rattle.array_values.specs.declared.fault.ArrayFault.TheVariants as in_array
+use Rattle.facet_reader.specs.declared.fault.FacetFault.{FacetFault}
+use Rattle.facet_reader.specs.declared.fault.FacetFault.TheVariants as in_facet
 use Rattle.hap_outside.specs.Causes.{Rose, HasCause}
 use Rattle.hap_outside.specs.Writes.{Writes}
 use Rattle.hap_ends.specs.declared.refusal.Refusal.{Refusal}
-use Rattle.hap_ends.specs.declared.refusal.Refusal.TheVariants.{TooLong, Text, Space, Array, Irregular, Components, Chains, Classes, Word, Position, Spent, Index, TotalCells}
-use Rattle.hap_ends.specs.Refusals.{refusal_status, space_status, array_status, bare}
+use Rattle.hap_ends.specs.declared.refusal.Refusal.TheVariants.{TooLong, Text, Space, Array, Facet, Irregular, Components, Chains, Classes, Word, Position, Spent, Index, TotalCells}
+use Rattle.hap_ends.specs.Refusals.{refusal_status, space_status, array_status, facet_status, bare}
 use Rattle.hap_ends.specs.Outcomes.{Tells}
 
 -- what a call that wrote a line tells, whatever it answered
@@ -48,6 +50,15 @@ refused_range (Array fault) = of_array fault
     of_array (in_array.BadPair r) = (omega arith, omega arith)
     of_array (in_array.ColumnCount c) = (omega arith, omega arith)
     of_array in_array.Memory = (omega arith, omega arith)
+refused_range (Facet fault) = of_facet fault
+  where
+    of_facet : (fault : FacetFault) → (2 ≤ facet_status fault) × (facet_status fault ≤ 6)
+    of_facet in_facet.TooManyCells = (omega arith, omega arith)
+    of_facet (in_facet.Shape p) = (omega arith, omega arith)
+    of_facet in_facet.Empty = (omega arith, omega arith)
+    of_facet (in_facet.BadLabel p) = (omega arith, omega arith)
+    of_facet (in_facet.Repeated p) = (omega arith, omega arith)
+    of_facet in_facet.Memory = (omega arith, omega arith)
 refused_range (Irregular fault) = (omega arith, omega arith)
 refused_range (Components count) = (omega arith, omega arith)
 refused_range (Chains count) = (omega arith, omega arith)
@@ -64,6 +75,7 @@ bare_status (TooLong limit) = refl
 bare_status (Text fault) = refl
 bare_status (Space fault) = refl
 bare_status (Array fault) = refl
+bare_status (Facet fault) = refl
 bare_status (Irregular fault) = refl
 bare_status (Components count) = refl
 bare_status (Chains count) = refl

@@ -3,7 +3,8 @@
 --   status_of outcome         the status
 --   line_of outcome           the line for err, and nothing where the run is done
 --   written_outcome answer    how a run ends after its answer was written, or was not
---   text_outcome, space_outcome, array_outcome, regular_outcome, chain_outcome, word_outcome, search_outcome, cover_outcome
+--   text_outcome, space_outcome, array_outcome, facet_outcome, regular_outcome, chain_outcome, word_outcome, search_outcome,
+--   cover_outcome
 --                             how it ends at a fault of these
 --   Fails stage outcome       a stage that gives a value or a refusal refuses for this cause, or memory was wanting
 --   Yields stage result       Ok comes with the value of the stage, and else the stage fails so
@@ -16,7 +17,7 @@ use Rattle.std.specs.Io.KnownBytes.{Appends}
 use Rattle.hap_ends.specs.declared.outcome.Outcome.{Outcome}
 use Rattle.hap_ends.specs.declared.outcome.Outcome.TheVariants.{Done, Spent, Usage, Refused, ReadFault, WriteFault, Memory}
 use Rattle.hap_ends.specs.declared.refusal.Refusal.{Refusal}
-use Rattle.hap_ends.specs.declared.refusal.Refusal.TheVariants.{Text, Space, Array, Irregular, Components, Chains, Word, Position, Index, TotalCells}
+use Rattle.hap_ends.specs.declared.refusal.Refusal.TheVariants.{Text, Space, Array, Facet, Irregular, Components, Chains, Word, Position, Index, TotalCells}
 use Rattle.hap_ends.specs.declared.refusal.Refusal.TheVariants as refused
 use Rattle.gap_text.specs.declared.fault.TextFault.{TextFault}
 use Rattle.gap_text.specs.declared.fault.TextFault.TheVariants as in_text
@@ -24,6 +25,8 @@ use Rattle.face_poset.specs.declared.fault.SpaceFault.{SpaceFault}
 use Rattle.face_poset.specs.declared.fault.SpaceFault.TheVariants as in_space
 use Rattle.array_values.specs.declared.fault.ArrayFault.{ArrayFault}
 use Rattle.array_values.specs.declared.fault.ArrayFault.TheVariants as in_array
+use Rattle.facet_reader.specs.declared.fault.FacetFault.{FacetFault}
+use Rattle.facet_reader.specs.declared.fault.FacetFault.TheVariants as in_facet
 use Rattle.regular_check.specs.declared.fault.RegularFault.{RegularFault}
 use Rattle.regular_check.specs.declared.fault.RegularFault.TheVariants as in_rules
 use Rattle.order_complex.specs.declared.fault.ChainFault.{ChainFault}
@@ -74,6 +77,10 @@ space_outcome fault = Refused (Space fault)
 abbrev pub array_outcome : ArrayFault → Outcome
 array_outcome in_array.Memory = Memory
 array_outcome fault = Refused (Array fault)
+
+abbrev pub facet_outcome : FacetFault → Outcome
+facet_outcome in_facet.Memory = Memory
+facet_outcome fault = Refused (Facet fault)
 
 abbrev pub regular_outcome : RegularFault → Outcome
 regular_outcome in_rules.Memory = Memory

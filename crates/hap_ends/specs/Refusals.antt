@@ -1,9 +1,10 @@
 -- Why a command refuses its input, with the status and the line of each cause.
---   refusal_status cause     2 for a position, 3 for the text, 4 for the space or the array, 5 for a limit, 6 for a budget that is spent
+--   refusal_status cause     2 for a position, 3 for the text, 4 for the space, the array or the facets, 5 for a limit, 6 for a budget that is spent
 --   refusal_line cause       the line on standard error, which begins with `hap: ` and ends with a line feed
 --   bare cause               the cause without the room that its spot has, which is no part of what a spot is
---   text_line, space_line, array_fault_line, regular_line, word_line, spent_line, count_line   the line of each kind of cause
---   space_status, array_status, text_words, text_place, cell_line, array_line, rule_line, sphere_line, spot_words: steps
+--   text_line, space_line, array_fault_line, facet_line, regular_line, word_line, spent_line, count_line   the line of each kind of cause
+--   space_status, array_status, facet_status, text_words, text_place, cell_line, array_line, facet_place_line, rule_line, sphere_line,
+--                            spot_words: steps
 -- and for the code as it writes
 --   spent_front component    what stands before the position of a spot that is spent
 --   later_cells cells        the cells of a position behind the first, each with a comma before it
@@ -17,11 +18,13 @@ use Rattle.face_poset.specs.declared.fault.SpaceFault.{SpaceFault}
 use Rattle.face_poset.specs.declared.fault.SpaceFault.TheVariants as in_space
 use Rattle.array_values.specs.declared.fault.ArrayFault.{ArrayFault}
 use Rattle.array_values.specs.declared.fault.ArrayFault.TheVariants as in_array
+use Rattle.facet_reader.specs.declared.fault.FacetFault.{FacetFault}
+use Rattle.facet_reader.specs.declared.fault.FacetFault.TheVariants as in_facet
 use Rattle.regular_check.specs.declared.fault.RegularFault.{RegularFault}
 use Rattle.regular_check.specs.declared.fault.RegularFault.TheVariants as rule
 use Rattle.sheet_tables.specs.Spots.{Mark, spot_text}
 use Rattle.hap_ends.specs.declared.refusal.Refusal.{Refusal}
-use Rattle.hap_ends.specs.declared.refusal.Refusal.TheVariants.{TooLong, Text, Space, Array, Irregular, Components, Chains, Classes, Word, Position, Spent, Index, TotalCells}
+use Rattle.hap_ends.specs.declared.refusal.Refusal.TheVariants.{TooLong, Text, Space, Array, Facet, Irregular, Components, Chains, Classes, Word, Position, Spent, Index, TotalCells}
 
 abbrev pub space_status : SpaceFault → ℕ
 space_status in_space.TooManyCells = 5
@@ -31,10 +34,15 @@ abbrev pub array_status : ArrayFault → ℕ
 array_status in_array.TooManyCells = 5
 array_status other = 4
 
+abbrev pub facet_status : FacetFault → ℕ
+facet_status in_facet.TooManyCells = 5
+facet_status other = 4
+
 abbrev pub refusal_status : Refusal → ℕ
 refusal_status (Text fault) = 3
 refusal_status (Space fault) = space_status fault
 refusal_status (Array fault) = array_status fault
+refusal_status (Facet fault) = facet_status fault
 refusal_status (Irregular fault) = 4
 refusal_status Position = 2
 refusal_status (Spent spot) = 6
@@ -103,6 +111,18 @@ array_fault_line (in_array.ColumnCount column) = array_line (codes "column ") co
 array_fault_line in_array.TooManyCells = codes "hap: limit: cells over 60000\n"
 array_fault_line in_array.Memory = codes "hap: want of memory\n"
 
+-- what is wrong with simplices or with a partial order, and where
+abbrev pub facet_place_line : List ℕ → ℕ → List ℕ
+facet_place_line words place = codes "hap: facet: " ++ (words ++ (codes " at byte " ++ (decimal place ++ codes "\n")))
+
+abbrev pub facet_line : FacetFault → List ℕ
+facet_line (in_facet.Shape place) = facet_place_line (codes "shape") place
+facet_line in_facet.Empty = codes "hap: facet: empty\n"
+facet_line (in_facet.BadLabel place) = facet_place_line (codes "bad label") place
+facet_line (in_facet.Repeated place) = facet_place_line (codes "repeated label") place
+facet_line in_facet.TooManyCells = codes "hap: limit: cells over 60000\n"
+facet_line in_facet.Memory = codes "hap: want of memory\n"
+
 -- the rule that a cell breaks
 abbrev pub rule_line : List ℕ → ℕ → List ℕ
 rule_line words cell = codes "hap: space: " ++ (words ++ (codes ", cell " ++ (decimal cell ++ codes "\n")))
@@ -132,6 +152,7 @@ refusal_line (TooLong limit) = count_line (codes "hap: limit: input over ") limi
 refusal_line (Text fault) = text_line fault
 refusal_line (Space fault) = space_line fault
 refusal_line (Array fault) = array_fault_line fault
+refusal_line (Facet fault) = facet_line fault
 refusal_line (Irregular fault) = regular_line fault
 refusal_line (Components count) = count_line (codes "hap: limit: only ") count (codes " components\n")
 refusal_line (Chains count) = count_line (codes "hap: limit: ") count (codes " chains\n")

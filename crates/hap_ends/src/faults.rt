@@ -5,6 +5,7 @@ use array_values::ArrayFault;
 use cover_search::SearchFault;
 use edge_words::WordFault;
 use face_poset::SpaceFault;
+use facet_reader::FacetFault;
 use gap_text::TextFault;
 use order_complex::ChainFault;
 use part_covers::CoverFault;
@@ -49,6 +50,20 @@ impl From<ArrayFault> for Outcome {
         match fault {
             ArrayFault::Memory => Outcome::Memory,
             _ => Outcome::Refused(Refusal::Array(fault)),
+        }
+    }
+}
+
+impl From<FacetFault> for Outcome {
+    ghost use Rattle.std.specs.Prelude.{◌≡◌};
+    ghost use Rattle.hap_ends.specs.Outcomes.{facet_outcome};
+
+    ghost from_gives = { λ fault outcome. outcome ≡ facet_outcome fault };
+
+    fn from(fault: FacetFault) -> Outcome {
+        match fault {
+            FacetFault::Memory => Outcome::Memory,
+            _ => Outcome::Refused(Refusal::Facet(fault)),
         }
     }
 }

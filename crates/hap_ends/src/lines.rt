@@ -6,6 +6,7 @@ ghost use Rattle.hap_ends.specs.Refusals as refusals;
 
 use array_values::ArrayFault;
 use face_poset::{Cell, SpaceFault};
+use facet_reader::FacetFault;
 use gap_text::TextFault;
 use hap_outside::{Failed, Piece, Sink, write_all, write_pieces};
 use regular_check::RegularFault;
@@ -82,6 +83,38 @@ fn text_place(fault: TextFault) -> u32
         TextFault::TooDeep(place) => place,
         TextFault::Memory => 0,
     }
+}
+
+/// Writes the line of a fault of simplices or of a partial order.
+pub fn write_facet<E: Sink>(err: &mut E, fault: FacetFault) -> Result<(), Failed>
+    ensures bytes { Writes (E.written err.old) (E.written err.new) (refusals.facet_line fault) result }
+    ensures cause { HasCause (E.faults err.old) (E.faults err.new) result }
+{
+    match fault {
+        FacetFault::Shape(place) => write_facet_at(err, b"shape", place),
+        FacetFault::Empty => write_all(err, b"hap: facet: empty\n"),
+        FacetFault::BadLabel(place) => write_facet_at(err, b"bad label", place),
+        FacetFault::Repeated(place) => write_facet_at(err, b"repeated label", place),
+        FacetFault::TooManyCells => write_all(err, b"hap: limit: cells over 60000\n"),
+        FacetFault::Memory => write_all(err, b"hap: want of memory\n"),
+    }
+}
+
+fn write_facet_at<E: Sink>(err: &mut E, words: &[u8], place: u32) -> Result<(), Failed>
+    ensures bytes { Writes (E.written err.old) (E.written err.new) (refusals.facet_place_line words.now place) result }
+    ensures cause { HasCause (E.faults err.old) (E.faults err.new) result }
+{
+    let place = Piece::Count(u64::from(place));
+    write_pieces(
+        err,
+        &[
+            Piece::Text(b"hap: facet: "),
+            Piece::Text(words),
+            Piece::Text(b" at byte "),
+            place,
+            Piece::Text(b"\n"),
+        ],
+    )
 }
 
 /// Writes the line of a fault of the space.

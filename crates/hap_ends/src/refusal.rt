@@ -4,10 +4,13 @@ ghost use Rattle.hap_outside.specs.Causes.{HasCause};
 ghost use Rattle.hap_outside.specs.Writes.{Writes};
 ghost use Rattle.hap_ends.specs.Refusals as refusals;
 
-use crate::lines::{write_array, write_count, write_regular, write_space, write_text, write_word};
+use crate::lines::{
+    write_array, write_count, write_facet, write_regular, write_space, write_text, write_word,
+};
 use crate::spent::write_spent;
 use array_values::ArrayFault;
 use face_poset::{Cell, SpaceFault};
+use facet_reader::FacetFault;
 use gap_text::TextFault;
 use hap_outside::{Failed, Sink, write_all};
 use regular_check::RegularFault;
@@ -24,6 +27,9 @@ pub enum Refusal {
     Space(SpaceFault),
     /// The value is no array of the kind, or its space has too many cells.
     Array(ArrayFault),
+    /// The value is no list of simplices or no partial order, as the kind says, or its space has too
+    /// many cells.
+    Facet(FacetFault),
     /// The space breaks a rule of regularity.
     Irregular(RegularFault),
     /// The space has only so many components, and a later one is asked for.
@@ -59,6 +65,7 @@ pub fn write_refusal<E: Sink>(err: &mut E, refusal: &Refusal) -> Result<(), Fail
         Refusal::Text(fault) => write_text(err, *fault),
         Refusal::Space(fault) => write_space(err, *fault),
         Refusal::Array(fault) => write_array(err, *fault),
+        Refusal::Facet(fault) => write_facet(err, *fault),
         Refusal::Irregular(fault) => write_regular(err, *fault),
         Refusal::Components(count) => {
             write_count(
@@ -91,6 +98,7 @@ pub fn refusal_code(refusal: &Refusal) -> u8
         Refusal::Text(_) => 3,
         Refusal::Space(fault) => space_code(*fault),
         Refusal::Array(fault) => array_code(*fault),
+        Refusal::Facet(fault) => facet_code(*fault),
         Refusal::Irregular(_) => 4,
         Refusal::Spent(_) => 6,
         Refusal::TooLong(_)
@@ -108,6 +116,15 @@ fn space_code(fault: SpaceFault) -> u8
 {
     match fault {
         SpaceFault::TooManyCells => 5,
+        _ => 4,
+    }
+}
+
+fn facet_code(fault: FacetFault) -> u8
+    ensures { result ≡ refusals.facet_status fault }
+{
+    match fault {
+        FacetFault::TooManyCells => 5,
         _ => 4,
     }
 }

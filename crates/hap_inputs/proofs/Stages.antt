@@ -12,6 +12,8 @@ use Rattle.face_poset.specs.declared.fault.SpaceFault.TheVariants as in_space
 use Rattle.face_poset.specs.Reader.{space_of}
 use Rattle.array_values.specs.declared.fault.ArrayFault.{ArrayFault}
 use Rattle.array_values.specs.declared.fault.ArrayFault.TheVariants as in_array
+use Rattle.facet_reader.specs.declared.fault.FacetFault.{FacetFault}
+use Rattle.facet_reader.specs.declared.fault.FacetFault.TheVariants as in_facet
 use Rattle.hap_words.specs.declared.command.Kind.{Kind}
 use Rattle.hap_words.specs.declared.command.Kind.TheVariants.{Boundary}
 use Rattle.regular_check.specs.declared.fault.RegularFault.{RegularFault}
@@ -28,8 +30,8 @@ use Rattle.part_groups.specs.Groups.{long_word}
 use Rattle.hap_ends.specs.declared.outcome.Outcome.{Outcome}
 use Rattle.hap_ends.specs.declared.refusal.Refusal.{Refusal}
 use Rattle.hap_ends.specs.declared.refusal.Refusal.TheVariants.{Chains}
-use Rattle.hap_inputs.specs.Spaces.{space_in, space_of_kind, of_text, of_value, of_array, unless_broken, only_regular, only_few, chain_limit, unless_long, only_worded}
-use Rattle.hap_ends.specs.Outcomes.{text_outcome, space_outcome, array_outcome, regular_outcome, chain_outcome, word_outcome, Fails}
+use Rattle.hap_inputs.specs.Spaces.{space_in, space_of_kind, of_text, of_value, of_array, of_facets, unless_broken, only_regular, only_few, chain_limit, unless_long, only_worded}
+use Rattle.hap_ends.specs.Outcomes.{text_outcome, space_outcome, array_outcome, facet_outcome, regular_outcome, chain_outcome, word_outcome, Fails}
 
 pub less : (n m : ℕ) → n < m → nat_lt n m ≡ true
 less n m h = at (nat_lt n m) refl
@@ -77,6 +79,15 @@ array_ends r in_array.Empty h = ap of_array (h (λ f. cc))
 array_ends r (in_array.BadPair p) h = ap of_array (h (λ f. cc))
 array_ends r (in_array.ColumnCount p) h = ap of_array (h (λ f. cc))
 array_ends r in_array.TooManyCells h = ap of_array (h (λ f. cc))
+
+-- and one of simplices or of a partial order
+pub facet_ends : (r : Result Layers FacetFault) (fault : FacetFault) → (fault ≢ in_facet.Memory → r ≡ Err fault) → Fails (of_facets r) (facet_outcome fault)
+facet_ends r in_facet.Memory h = tt
+facet_ends r (in_facet.Shape p) h = ap of_facets (h (λ f. cc))
+facet_ends r in_facet.Empty h = ap of_facets (h (λ f. cc))
+facet_ends r (in_facet.BadLabel p) h = ap of_facets (h (λ f. cc))
+facet_ends r (in_facet.Repeated p) h = ap of_facets (h (λ f. cc))
+facet_ends r in_facet.TooManyCells h = ap of_facets (h (λ f. cc))
 
 -- what stops the reading of a value stops that of its text
 pub value_ends : (kind : Kind) (bytes : List ℕ) (value : Value) (outcome : Outcome) → value_of bytes ≡ Ok value → Fails (space_of_kind kind value) outcome → Fails (space_in kind bytes) outcome

@@ -1,7 +1,7 @@
 -- The space that bytes stand for, stage by stage. A stage gives a value, or the refusal with which the run ends. kind says
 -- how the bytes are to be read.
 --   chain_limit                   the most chains of an order complex
---   space_of_kind kind value      the space of a value, or its first fault as a space or as an array
+--   space_of_kind kind value      the space of a value, or its first fault as what the kind says
 --   space_in kind bytes           first the text is read, and then the space of its value
 --   only_regular stage            after a stage: refused where the space breaks a rule of regularity
 --   only_few stage                after a stage: refused where the order complex has more chains than are taken
@@ -22,7 +22,7 @@
 --   wanted_by o                   the cover that is asked for
 --   cover_in, total_in kind bytes o   that cover of the space of the bytes, and its total space, after their stages
 --   fault_in stage                the refusal of a stage, if there is one
---   of_value, of_array, of_text, unless_broken, unless_long, is_live_first, total_few: steps
+--   of_value, of_array, of_facets, of_text, unless_broken, unless_long, is_live_first, total_few: steps
 use Rattle.std.specs.Prelude.{ℕ, List, [], ◌∷◌, length, Bool, false, ◌==◌, ◌&&◌, ◌||◌, nat_lt, nat_le, if◌then◌else◌}
 use Rattle.std.specs.declared.result.Result.{Result}
 use Rattle.std.specs.declared.result.Result.TheVariants.{Ok, Err}
@@ -38,8 +38,11 @@ use Rattle.array_values.specs.declared.fault.ArrayFault.{ArrayFault}
 use Rattle.tuple_spaces.specs.Voxels.{cubical_of}
 use Rattle.voxel_spaces.specs.ArcComplements.{arcs_space_of}
 use Rattle.permutahedral_arrays.specs.Permutahedra.{permutahedral_of}
+use Rattle.facet_reader.specs.declared.fault.FacetFault.{FacetFault}
+use Rattle.facet_reader.specs.Simplices.{simplices_of}
+use Rattle.facet_reader.specs.Orders.{poset_of}
 use Rattle.hap_words.specs.declared.command.Kind.{Kind}
-use Rattle.hap_words.specs.declared.command.Kind.TheVariants.{Boundary, Cubical, Permutahedral, Arcs}
+use Rattle.hap_words.specs.declared.command.Kind.TheVariants.{Boundary, Cubical, Permutahedral, Arcs, Simplices, Poset}
 use Rattle.regular_check.specs.declared.fault.RegularFault.{RegularFault}
 use Rattle.regular_check.specs.Rules.{first_fault}
 use Rattle.order_complex.specs.Chains.{chain_count}
@@ -54,7 +57,7 @@ use Rattle.part_covers.specs.Covered.{Covering, covering_in}
 use Rattle.hap_words.specs.Asked.{SearchSpot, CoverAsked}
 use Rattle.hap_ends.specs.declared.refusal.Refusal.{Refusal}
 use Rattle.hap_ends.specs.declared.refusal.Refusal.TheVariants as refused
-use Rattle.hap_ends.specs.declared.refusal.Refusal.TheVariants.{Text, Space, Array, Irregular, Components, Chains, Word, Index, TotalCells}
+use Rattle.hap_ends.specs.declared.refusal.Refusal.TheVariants.{Text, Space, Array, Facet, Irregular, Components, Chains, Word, Index, TotalCells}
 
 abbrev pub chain_limit : ℕ
 chain_limit = 700000
@@ -73,11 +76,17 @@ abbrev pub of_array : Result Layers ArrayFault → Result Layers Refusal
 of_array (Ok space) = Ok space
 of_array (Err fault) = Err (Array fault)
 
+abbrev pub of_facets : Result Layers FacetFault → Result Layers Refusal
+of_facets (Ok space) = Ok space
+of_facets (Err fault) = Err (Facet fault)
+
 abbrev pub space_of_kind : Kind → Value → Result Layers Refusal
 space_of_kind Boundary value = of_value (space_of value)
 space_of_kind Cubical value = of_array (cubical_of value)
 space_of_kind Permutahedral value = of_array (permutahedral_of value)
 space_of_kind Arcs value = of_array (arcs_space_of value)
+space_of_kind Simplices value = of_facets (simplices_of value)
+space_of_kind Poset value = of_facets (poset_of value)
 
 abbrev pub of_text : Kind → Result Value TextFault → Result Layers Refusal
 of_text kind (Ok value) = space_of_kind kind value

@@ -5,6 +5,7 @@ ghost use Rattle.hap_inputs.specs.Spaces.{space_in, space_of_kind, only_regular}
 ghost use Rattle.hap_ends.specs.Outcomes.{Yields};
 
 use face_poset::{Space, from_nest};
+use facet_reader::{poset, simplices};
 use gap_text::{Nest, parse};
 use hap_ends::Outcome;
 use hap_words::Kind;
@@ -31,6 +32,8 @@ fn space_of_nest(alloc: Global, kind: Kind, nest: &Nest) -> Result<Space, Outcom
         Kind::Cubical => Ok(cubical(alloc, nest)?),
         Kind::Permutahedral => Ok(permutahedral(alloc, nest)?),
         Kind::Arcs => Ok(arcs(alloc, nest)?),
+        Kind::Simplices => Ok(simplices(alloc, nest)?),
+        Kind::Poset => Ok(poset(alloc, nest)?),
     }
 }
 

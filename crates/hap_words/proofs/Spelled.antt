@@ -13,7 +13,7 @@ use Rattle.clap.proofs.OnLiterals.{clap_on_literals}
 use Rattle.sheet_tables.specs.Spots.{spot_from, spot_text}
 use Rattle.sheet_tables.proofs.CallerLemmas.{spot-back}
 use Rattle.hap_words.specs.declared.command.Kind.{Kind}
-use Rattle.hap_words.specs.declared.command.Kind.TheVariants.{Boundary, Cubical, Permutahedral, Arcs}
+use Rattle.hap_words.specs.declared.command.Kind.TheVariants.{Boundary, Cubical, Permutahedral, Arcs, Simplices, Poset}
 use Rattle.hap_words.specs.declared.table.Name.TheVariants as name
 use Rattle.hap_words.specs.Asked.{Asked, Source, SearchSpot, InputAsked, FieldAsked, CoversAsked, CoverAsked, ReportAsked, MakeAsked, cells, check, betti, cup, verify, migrate, group, covers, cover, report, make}
 use Rattle.hap_words.specs.Line.{hap_app}
@@ -163,6 +163,8 @@ kind-read Boundary = refl
 kind-read Cubical = refl
 kind-read Permutahedral = refl
 kind-read Arcs = refl
+kind-read Simplices = refl
+kind-read Poset = refl
 
 source-read : (s : Source) → source_at (kind_word s.kind) s.name ≡ Some s
 source-read s = ap (option_map (λ kind. record { kind = kind; name = s.name })) (kind-read s.kind)

@@ -16,7 +16,7 @@ use Rattle.std.specs.declared.option.Option.TheVariants.{Some, None}
 use Rattle.clap.specs.Words.{Text}
 use Rattle.sheet_tables.specs.Spots.{spot_text}
 use Rattle.hap_words.specs.declared.command.Kind.{Kind}
-use Rattle.hap_words.specs.declared.command.Kind.TheVariants.{Boundary, Cubical, Permutahedral, Arcs}
+use Rattle.hap_words.specs.declared.command.Kind.TheVariants.{Boundary, Cubical, Permutahedral, Arcs, Simplices, Poset}
 use Rattle.hap_words.specs.declared.table.Name.{Name}
 use Rattle.hap_words.specs.declared.table.Name.TheVariants as name
 use Rattle.hap_words.specs.Asked.{Source, SearchSpot}
@@ -37,6 +37,8 @@ kind_word Boundary = codes "boundary"
 kind_word Cubical = codes "cubical"
 kind_word Permutahedral = codes "permutahedral"
 kind_word Arcs = codes "arcs"
+kind_word Simplices = codes "simplices"
+kind_word Poset = codes "poset"
 
 -- an option that may be left out
 abbrev pub joined_if : Name → Option Text → List Text

@@ -29,7 +29,7 @@ use Rattle.clap.specs.Words.{Row, Text, fault_of, first_of, found_of, matches_of
 use Rattle.clap.specs.declared.parser.matches.ArgMatches.{ArgMatches}
 use Rattle.sheet_tables.specs.Spots.{spot_from}
 use Rattle.hap_words.specs.declared.command.Kind.{Kind}
-use Rattle.hap_words.specs.declared.command.Kind.TheVariants.{Boundary, Cubical, Permutahedral, Arcs}
+use Rattle.hap_words.specs.declared.command.Kind.TheVariants.{Boundary, Cubical, Permutahedral, Arcs, Simplices, Poset}
 use Rattle.hap_words.specs.declared.table.Verb.{Verb}
 use Rattle.hap_words.specs.declared.table.Verb.TheVariants as verb
 use Rattle.hap_words.specs.declared.table.Name.{Name}
@@ -53,7 +53,7 @@ verbs =
 abbrev pub kinds : List (Text × Kind)
 kinds =
     (codes "boundary", Boundary) ∷ (codes "cubical", Cubical) ∷ (codes "permutahedral", Permutahedral)
-    ∷ (codes "arcs", Arcs) ∷ []
+    ∷ (codes "arcs", Arcs) ∷ (codes "simplices", Simplices) ∷ (codes "poset", Poset) ∷ []
 
 -- ---- the options that each command takes
 

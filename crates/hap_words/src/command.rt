@@ -39,6 +39,10 @@ pub enum Kind {
     Permutahedral,
     /// An arc presentation.
     Arcs,
+    /// A simplicial complex by lists of labels.
+    Simplices,
+    /// A finite partial order, which stands for its order complex.
+    Poset,
 }
 
 /// Where the input comes from: its kind, and the name of a file, or none for standard input.

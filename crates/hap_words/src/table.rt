@@ -66,6 +66,8 @@ pub fn kind_of_word(word: &str) -> Option<Kind>
             ("cubical", Kind::Cubical),
             ("permutahedral", Kind::Permutahedral),
             ("arcs", Kind::Arcs),
+            ("simplices", Kind::Simplices),
+            ("poset", Kind::Poset),
         ],
         word,
     )
