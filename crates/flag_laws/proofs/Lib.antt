@@ -1,3 +1,7 @@
+mod SignedRows
+mod Split
+mod Coordinates
+mod Moved
 mod Sums
 mod Integers
 mod TowerSums

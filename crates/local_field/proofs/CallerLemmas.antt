@@ -19,5 +19,11 @@ pub use Rattle.local_field.proofs.ChainTowers.{IsRoom, IsNumber, tower-chain, nu
 
 -- they are towers that are there, and chains, whose last cell is the cell
 pub use Rattle.local_field.proofs.Orders.{room, number, top-number}
+-- there are as many numbers of flags as cells
+pub use Rattle.local_field.proofs.Orders.{many}
 -- the lower of a pair inside a cell is shorter than a full tower
 pub use Rattle.local_field.proofs.AllCells.{lower-short}
+-- ---- collapses
+
+-- a regular space has some for all its 3-cells
+pub use Rattle.local_field.proofs.Choices.{some-collapse}

@@ -12,3 +12,7 @@ pub use Rattle.pair_stages.proofs.Rows.{reduced_is_one}
 pub use Rattle.pair_stages.proofs.Pairwise.{triangular_at}
 -- of units: a side as a mark, the value of one on another, and that each upper has exactly one
 pub use Rattle.pair_stages.proofs.UnitLemmas.{filled_mark, value_is, match_uppers}
+-- the pairs of a valid field of a signed set are a matching between two dimensions; the first one has no upper
+pub use Rattle.pair_stages.proofs.Matching.{matching, first_kinds}
+-- splits of degrees without cells, of one with none before it, and combinations without rows
+pub use Rattle.pair_stages.proofs.Complexes.{empty_split, first_split, combinations_of_nothing}

@@ -37,12 +37,12 @@ zero_off (Lower ∷ us) = (refl, zero_off us)
 zero_off (Upper ∷ us) = zero_off us
 
 module _ (F : Ops) (L : IsField F) where
-  combinations_of_nothing : (n : ℕ) (rs : List (List ℕ)) → AllByRecursion (λ r. combination F n r [] ≡ replicate n 0) rs
+  pub combinations_of_nothing : (n : ℕ) (rs : List (List ℕ)) → AllByRecursion (λ r. combination F n r [] ≡ replicate n 0) rs
   combinations_of_nothing n [] = tt
   combinations_of_nothing n ([] ∷ rs) = (refl, combinations_of_nothing n rs)
   combinations_of_nothing n ((c ∷ cs) ∷ rs) = (refl, combinations_of_nothing n rs)
 
-  empty_split : IsSplit F 0 0 [] [] []
+  pub empty_split : IsSplit F 0 0 [] [] []
   empty_split = record {
     matrix = tt;
     long = refl;
@@ -52,7 +52,7 @@ module _ (F : Ops) (L : IsField F) where
     carries = λ t v. ([], record { long = refl; elements = tt }, refl, tt);
   }
 
-  first_split : (us : List Kind) → HasNoUpper us → IsSplit F 0 (length us) [] [] us
+  pub first_split : (us : List Kind) → HasNoUpper us → IsSplit F 0 (length us) [] [] us
   first_split us h = record {
     matrix = tt;
     long = refl;

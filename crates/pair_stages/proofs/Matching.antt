@@ -221,7 +221,8 @@ no_upper (Critical ∷ ts) h = no_upper ts (λ i lt. h (suc i) (omega arith))
 no_upper (Lower ∷ ts) h = no_upper ts (λ i lt. h (suc i) (omega arith))
 no_upper (Upper ∷ ts) h = h 0 (omega arith) refl
 
-first_kinds : (pairs : List Pair) (n : ℕ) (ts : List Kind) → AreKinds pairs 0 n ts → HasNoUpper ts
+-- the first degree has no upper
+pub first_kinds : (pairs : List Pair) (n : ℕ) (ts : List Kind) → AreKinds pairs 0 n ts → HasNoUpper ts
 first_kinds pairs n ts a =
     no_upper ts
     (λ i li e.
