@@ -142,7 +142,7 @@ module _ (F : Ops) (L : IsField F) where
         zero-at (suc m) zero = refl
         zero-at (suc m) (suc i) = zero-at m i
 
-    turned-plus : (s : ℕ) (u v : List ℕ) → length u ≡ n → length v ≡ n → P (plus_scaled F s u v) ≡ plus_scaled F s (P u) (P v)
+    pub turned-plus : (s : ℕ) (u v : List ℕ) → length u ≡ n → length v ≡ n → P (plus_scaled F s u v) ≡ plus_scaled F s (P u) (P v)
     turned-plus s u v lu lv = on cells o.within
       where
         one : (c : ℕ) → 1 ≤ c → c ≤ n → F.mul (sg (e c)) (get_or (plus_scaled F s u v) (c - 1) 0) ≡ F.add (F.mul (sg (e c)) (get_or u (c - 1) 0)) (F.mul s (F.mul (sg (e c)) (get_or v (c - 1) 0)))

@@ -2,6 +2,7 @@ mod SignedRows
 mod Split
 mod Coordinates
 mod Moved
+mod Betti
 mod Sums
 mod Integers
 mod TowerSums

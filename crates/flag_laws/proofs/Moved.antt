@@ -9,7 +9,7 @@ use Rattle.linear_laws.proofs.CallerLemmas.{combination-vector}
 
 module _ (F : Ops) (L : IsField F) where
   -- the same with the number of coordinates for itself
-  record IsKernel (n m : ℕ) (next : List (List ℕ)) (x : List ℕ) : Type 0 where
+  pub record IsKernel (n m : ℕ) (next : List (List ℕ)) (x : List ℕ) : Type 0 where
     pub vector : IsVector F n x
     pub zero : combination F m x next ≡ replicate m 0
 
@@ -92,7 +92,7 @@ module _ (F : Ops) (L : IsField F) where
     };
   }
 
-  module _ (n m : ℕ) (to from above below : List ℕ → List ℕ) (last next last_moved next_moved : List (List ℕ)) (c : IsChange n to from) (d : IsChange m above below) (s : SpansMove n to from last last_moved) (r : RowsMove n m to above next next_moved) (matrix : IsMatrix F m next) where
+  module _ (n m : ℕ) (to from above below : List ℕ → List ℕ) (last next last_moved next_moved : List (List ℕ)) (c : IsChange n to from) (d : IsChange m above below) (s : SpansMove n to from last last_moved) (r : RowsMove n m to above next next_moved) (matrix : IsMatrix F m next) (from_matrix : IsMatrix F n last) where
     kernel-to : (x : List ℕ) → IsKernel n m next x → IsKernel n m next_moved (to x)
     kernel-to x h = record { vector = c.to_vector x; zero = sym (r x h.vector) ∙ (ap above h.zero ∙ d.zeros) }
 
@@ -138,4 +138,4 @@ module _ (F : Ops) (L : IsField F) where
         }
       where
         span-long : (b : List ℕ) → InSpan F n last b → length b ≡ n
-        span-long b h = ?long
+        span-long b h = ap (λ (y : List ℕ). length y) (sym h.is) ∙ (combination-vector F L n h.coefficients last from_matrix).long

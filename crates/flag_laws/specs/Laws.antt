@@ -4,12 +4,17 @@
 --   by_flags space                        the cells in the order of the numbers of their flags, by dimension
 --   flag_rows F space negative degree     the rows of the cells with their signs, numbered by their flags
 --   FlagsReduceToCells F                  these are the reduced rows of the chains
-use Rattle.std.specs.Prelude.{ℕ, suc, ◌≤◌, List, Bool, length}
-use Rattle.face_poset.specs.Poset.{Layers, IsSpace}
+--   cell_rows_into F space negative degree     the rows of the cells with their signs into a degree; none into degree 0
+--   CellsHaveTheBettiNumbers F            a basis of the cocycles of the cells modulo coboundaries has as many members as one of
+--                                         the whole order complex
+use Rattle.std.specs.Prelude.{ℕ, zero, suc, ◌+◌, ◌≤◌, List, [], Bool, length}
+use Rattle.face_poset.specs.Poset.{Layers, IsSpace, count}
 use Rattle.small_field.specs.Field.{Ops}
 use Rattle.vector_field.specs.Pairs.{Field}
 use Rattle.order_complex.specs.Chains.{chains_of}
+use Rattle.order_complex.specs.Homology.{IsBetti}
 use Rattle.order_complex.specs.Ranks.{rows_of}
+use Rattle.linear_laws.specs.Betti.{IsCohomologyBasis}
 use Rattle.cell_signs.specs.Oriented.{IsOriented}
 use Rattle.regular_check.specs.Rules.{IsRegular}
 use Rattle.split_laws.specs.declared.kind.Kind.{Kind}
@@ -33,3 +38,17 @@ FlagsReduceToCells F =
     → AreKinds field.pairs degree (length (chains_of space degree)) kinds
     → AreKinds field.pairs (suc degree) (length (chains_of space (suc degree))) next
     → IsReducedBy F (length (chains_of space degree)) (length (chains_of space (suc degree))) (rows_of F space degree) kinds next (flag_rows F space negative degree)
+
+abbrev pub cell_rows_into : Ops → Layers → (negative : ℕ → ℕ → ℕ → Bool) → (degree : ℕ) → List (List ℕ)
+cell_rows_into F space negative zero = []
+cell_rows_into F space negative (suc degree) = signed_rows F space negative degree
+
+abbrev pub CellsHaveTheBettiNumbers : Ops → Type 0
+CellsHaveTheBettiNumbers F =
+    (space : Layers) (negative : ℕ → ℕ → ℕ → Bool) (degree : ℕ) (zs : List (List ℕ))
+    → IsSpace space
+    → IsRegular space
+    → IsOriented space negative
+    → degree ≤ 3
+    → IsCohomologyBasis F (count space (degree + 1)) (cell_rows_into F space negative degree) (signed_rows F space negative degree) zs
+    → IsBetti F space degree (length zs)
