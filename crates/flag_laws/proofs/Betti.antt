@@ -267,3 +267,106 @@ module _ (rounds : CyclesGoRound) (collapses : BoundariesCollapse) (faces : Face
           basis-from F L n m (flag_into d) (flag_rows F space negative d) (map (to d) zs) (flag-long d small)
           (basis-moved F L n m (to d) (from d) (to (suc d)) (from (suc d)) last next (flag_into d) (flag_rows F space negative d) (change d (omega (arith, small))) (change (suc d) (omega (arith, small))) (into-move d small) (rows-move d small) (cell-matrix d) (into-matrix d) zs
           (basis-to F L n m last next zs (cell-long d) (subst (λ (k : ℕ). IsCohomologyBasis F (count space k) last next zs) one b)))
+
+      -- ---- the order complex
+
+      module _ (oriented : IsOriented space negative) (field : Field) (local : IsLocalField space field) where
+        abbrev flag_at : ℕ → List (List ℕ)
+        flag_at zero = flag_rows F space negative 0
+        flag_at (suc zero) = flag_rows F space negative 1
+        flag_at (suc (suc zero)) = flag_rows F space negative 2
+        flag_at (suc (suc (suc zero))) = flag_rows F space negative 3
+        flag_at (suc (suc (suc (suc d)))) = []
+
+        flag-at-is : (d : ℕ) → d ≤ 3 → flag_at d ≡ flag_rows F space negative d
+        flag-at-is zero small = refl
+        flag-at-is (suc zero) small = refl
+        flag-at-is (suc (suc zero)) small = refl
+        flag-at-is (suc (suc (suc zero))) small = refl
+        flag-at-is (suc (suc (suc (suc d)))) small = absurd (omega (arith, small))
+
+        abbrev N : ℕ → ℕ
+        N = before 0 (size_at F L space field local.valid)
+
+        abbrev rows : ℕ → List (List ℕ)
+        rows = before [] (rows_at F L space field local.valid)
+
+        abbrev kinds : ℕ → List Kind
+        kinds = before [] (kinds_at F L space field local.valid)
+
+        abbrev reduced : ℕ → List (List ℕ)
+        reduced = before [] flag_at
+
+        reduced-at : (d : ℕ) → d ≤ 3 → IsReducedBy F (N (suc d)) (N (suc (suc d))) (rows (suc d)) (kinds (suc d)) (kinds (suc (suc d))) (flag_at d)
+        reduced-at d small =
+            let ts : List Kind = kinds (suc d) in
+            let us : List Kind = kinds (suc (suc d)) in
+            let r = every-degree rounds faces sequences ordered space valid regular field local F L negative oriented d ts us small (kinds-are F L space field local.valid d (omega (arith, small))) (kinds-are F L space field local.valid (suc d) (omega (arith, small))) in
+            subst (λ (n : ℕ). IsReducedBy F n (N (suc (suc d))) (rows (suc d)) ts us (flag_at d)) (sym (sizes F L space field local.valid d (omega (arith, small))))
+            (subst (λ (n : ℕ). IsReducedBy F (length (chains_of space d)) n (rows (suc d)) ts us (flag_at d)) (sym (sizes F L space field local.valid (suc d) (omega (arith, small))))
+            (subst (λ (rs : List (List ℕ)). IsReducedBy F (length (chains_of space d)) (length (chains_of space (suc d))) rs ts us (flag_at d)) (sym (rows-are F L space field local.valid d small))
+            (subst (λ (rs : List (List ℕ)). IsReducedBy F (length (chains_of space d)) (length (chains_of space (suc d))) (rows_of F space d) ts us rs) (sym (flag-at-is d small)) r)))
+
+        are-reduced : AreReduced F N rows kinds reduced
+        are-reduced zero = record { matrix = tt; long = refl; each = λ i x l h. absurd (omega (arith, l)) }
+        are-reduced (suc zero) = reduced-at 0 (omega arith)
+        are-reduced (suc (suc zero)) = reduced-at 1 (omega arith)
+        are-reduced (suc (suc (suc zero))) = reduced-at 2 (omega arith)
+        are-reduced (suc (suc (suc (suc zero)))) = reduced-at 3 (omega arith)
+        are-reduced (suc (suc (suc (suc (suc d))))) = record { matrix = tt; long = refl; each = λ i x l h. absurd (omega (arith, l)) }
+
+        critical-count : (d : ℕ) → d ≤ 4 → criticals (kinds (suc d)) ≡ count space d
+        critical-count zero small = many-critical space valid faces sequences 0 (omega arith) field local (kinds 1) (kinds-are F L space field local.valid 0 (omega arith)) ∙ (flags-order 0 (omega arith)).many
+        critical-count (suc zero) small = many-critical space valid faces sequences 1 (omega arith) field local (kinds 2) (kinds-are F L space field local.valid 1 (omega arith)) ∙ (flags-order 1 (omega arith)).many
+        critical-count (suc (suc zero)) small = many-critical space valid faces sequences 2 (omega arith) field local (kinds 3) (kinds-are F L space field local.valid 2 (omega arith)) ∙ (flags-order 2 (omega arith)).many
+        critical-count (suc (suc (suc zero))) small = many-critical space valid faces sequences 3 (omega arith) field local (kinds 4) (kinds-are F L space field local.valid 3 (omega arith)) ∙ (flags-order 3 (omega arith)).many
+        critical-count (suc (suc (suc (suc zero)))) small = sym no-cells
+        critical-count (suc (suc (suc (suc (suc d))))) small = absurd (omega (arith, small))
+
+        -- each cocycle has its extension
+        extended : (n m : ℕ) (rs : List (List ℕ)) (ts us : List Kind) → SolutionsAreOne F → IsSplit F n m rs ts us → (ws : List (List ℕ)) → IsMatrix F (criticals ts) ws
+            → (xs : List (List ℕ)) × AreExtensions F n m rs ts us ws xs × (length xs ≡ length ws)
+        extended n m rs ts us one split [] h = ([], tt, refl)
+        extended n m rs ts us one split (w ∷ ws) h =
+            let x = one.extension n m rs ts us split w h.0 in
+            let r = extended n m rs ts us one split ws h.1 in
+            (x.0 ∷ r.0, (x.1, r.1), ap suc r.2)
+
+        vectors-of : (n m : ℕ) (next : List (List ℕ)) (ws : List (List ℕ)) → length next ≡ n → AllByRecursion (IsInKernel F m next) ws → IsMatrix F n ws
+        vectors-of n m next [] l h = tt
+        vectors-of n m next (w ∷ ws) l h = (subst (λ (k : ℕ). IsVector F k w) l h.0.vector, vectors-of n m next ws l h.1)
+
+        rows-into : (d : ℕ) → d ≤ 3 → rows d ≡ rows_into F space d
+        rows-into zero small = refl
+        rows-into (suc d) small = rows-are F L space field local.valid d (omega (arith, small))
+
+        into-is : (d : ℕ) → d ≤ 3 → flag_into d ≡ reduced d
+        into-is zero small = refl
+        into-is (suc d) small = sym (flag-at-is d (omega (arith, small)))
+
+        pub betti-of : BasesExtend F → SolutionsAreOne F → (d : ℕ) (zs : List (List ℕ)) → d ≤ 3 → IsCohomologyBasis F (count space (d + 1)) (cell_rows_into F space negative d) (signed_rows F space negative d) zs → IsBetti F space d (length zs)
+        betti-of extend one d zs small b =
+            let ws : List (List ℕ) = map (to d) zs in
+            let complex = is-complex F L space field local.valid in
+            let f = flags-basis d zs small b in
+            let ts : List Kind = kinds (suc d) in
+            let us : List Kind = kinds (suc (suc d)) in
+            let g : IsCohomologyBasis F (criticals us) (reduced d) (flag_at d) ws =
+            subst (λ (n : ℕ). IsCohomologyBasis F n (reduced d) (flag_at d) ws) (sym (critical-count (suc d) (omega (arith, small))))
+            (subst (λ (rs : List (List ℕ)). IsCohomologyBasis F (count space (suc d)) rs (flag_at d) ws) (into-is d small)
+            (subst (λ (rs : List (List ℕ)). IsCohomologyBasis F (count space (suc d)) (flag_into d) rs ws) (sym (flag-at-is d small)) f)) in
+            let long : length (flag_rows F space negative d) ≡ criticals ts = flag-long d small ∙ sym (critical-count d (omega (arith, small))) in
+            let x = extended (N (suc d)) (N (suc (suc d))) (rows (suc d)) ts us one (complex.splits (suc d)) ws (vectors-of (criticals ts) (count space (suc d)) (flag_rows F space negative d) ws long f.cocycles) in
+            let found : IsCohomologyBasis F (N (suc (suc d))) (rows d) (rows (suc d)) x.0 = extend N rows kinds reduced complex are-reduced d ws x.0 g x.1 in (
+              x.0,
+              basis_of F L space d x.0
+                  (subst (λ (n : ℕ). IsCohomologyBasis F n (rows_into F space d) (rows_of F space d) x.0) (sizes F L space field local.valid (suc d) (omega (arith, small)))
+                  (subst (λ (rs : List (List ℕ)). IsCohomologyBasis F (N (suc (suc d))) rs (rows_of F space d) x.0) (rows-into d small)
+                  (subst (λ (rs : List (List ℕ)). IsCohomologyBasis F (N (suc (suc d))) (rows d) rs x.0) (rows-are F L space field local.valid d small) found))),
+              x.2 ∙ length-map zs (to d),
+            )
+
+pub cells_have : CyclesGoRound → BoundariesCollapse → FacesAreBelow → ChainsAreSequences → ChainsAreOrdered → LocalPairsAreFields → (F : Ops) → IsField F → BasesExtend F → SolutionsAreOne F → CellsHaveTheBettiNumbers F
+cells_have rounds collapses faces sequences ordered locals F L extend one space negative degree zs valid regular oriented small b =
+    let c = some-collapse collapses space valid regular in
+    betti-of rounds collapses faces sequences ordered locals space valid regular F L negative oriented (local_field_of space c.0) (locals space c.0 valid regular c.1) extend one degree zs small b
