@@ -1,5 +1,5 @@
 -- The cells with their signs have the Betti numbers of the order complex.
-use Rattle.std.proofs.Common.{◌≡◌, ℕ, zero, suc, ◌+◌, ◌-◌, ◌<◌, ◌≤◌, List, [], ◌∷◌, Bool, true, false, cond, map, length, get_or, Contains, refl, ap, sym, ◌∙◌, subst, arith}
+use Rattle.std.proofs.Common.{◌≡◌, ℕ, zero, suc, ◌+◌, ◌<◌, ◌≤◌, List, [], ◌∷◌, Bool, true, false, cond, map, length, get_or, Contains, refl, ap, sym, ◌∙◌, subst, arith}
 use Rattle.std.specs.List.{AllByRecursion}
 use Rattle.std.proofs.lemmas.List.{length-map, get_or_past}
 use Rattle.std.proofs.lemmas.List.Kept.{IsStrictlyIncreasing-filter}
@@ -9,13 +9,12 @@ use Rattle.linear_laws.specs.Vectors.{IsMatrix, IsInKernel, IsVector}
 use Rattle.linear_laws.specs.Betti.{IsCohomologyBasis}
 use Rattle.number_lists.specs.Words.{upto, holds}
 use Rattle.number_lists.specs.Members.{In}
-use Rattle.number_lists.proofs.CallerLemmas.{In-map, map-In, In-upto, upto-In, In-filter, In-inside, filter-In, In-holds, holds-In, In-Contains, Contains-In, none, increasing-upto}
-use Rattle.face_poset.specs.Poset.{Layers, IsSpace, count, facets_of}
+use Rattle.number_lists.proofs.CallerLemmas.{In-map, map-In, In-upto, upto-In, In-filter, filter-In, In-holds, holds-In, In-Contains, Contains-In, none, increasing-upto}
+use Rattle.face_poset.specs.Poset.{IsSpace, count, facets_of}
 use Rattle.regular_check.specs.Rules.{IsRegular}
 use Rattle.regular_check.specs.Cycle.{CyclesGoRound}
 use Rattle.sphere_collapses.specs.Laws.{BoundariesCollapse}
 use Rattle.order_complex.specs.Chains.{chains_of}
-use Rattle.order_complex.specs.Complex.{complex_of}
 use Rattle.order_complex.specs.Homology.{IsBetti}
 use Rattle.order_complex.specs.Laws.{FacesAreBelow, ChainsAreSequences, ChainsAreOrdered}
 use Rattle.order_complex.specs.Ranks.{rows_of, rows_into}
@@ -25,10 +24,10 @@ use Rattle.vector_field.specs.Pairs.{Field}
 use Rattle.split_laws.specs.declared.kind.Kind.{Kind}
 use Rattle.split_laws.specs.Kinds.{criticals}
 use Rattle.split_laws.specs.Split.{IsSplit}
-use Rattle.split_laws.specs.Solutions.{IsReducedBy, IsExtension, AreExtensions}
+use Rattle.split_laws.specs.Solutions.{IsReducedBy, AreExtensions}
 use Rattle.split_laws.specs.Complex.{before, AreReduced}
 use Rattle.split_laws.specs.Laws.{BasesExtend, SolutionsAreOne}
-use Rattle.pair_stages.specs.Signed.{sign_element, signed_entry, signed_rows, AreKinds}
+use Rattle.pair_stages.specs.Signed.{signed_entry, signed_rows}
 use Rattle.local_field.specs.Buildings.{flag_of}
 use Rattle.local_field.specs.Numbered.{number_of, flag_numbers, local_field_of, IsLocalField, LocalPairsAreFields}
 use Rattle.local_field.specs.Flags.{other_sign, is_odd, flag_negative, flag_cells, flags_in_order, top_number, negative_in}

@@ -1,17 +1,17 @@
 -- Vectors in another order of the coordinates and with signs, and rows that change with them.
-use Rattle.std.proofs.Common.{◌≡◌, ◌≢◌, inl, inr, ℕ, zero, suc, ◌+◌, ◌-◌, ◌<◌, ◌≤◌, List, [], ◌∷◌, Bool, true, false, cond, eqb, map, length, replicate, get_or, refl, ap, sym, ◌∙◌, subst, arith}
+use Rattle.std.proofs.Common.{◌≡◌, ◌≢◌, inl, inr, ℕ, zero, suc, ◌+◌, ◌-◌, ◌<◌, ◌≤◌, List, [], ◌∷◌, Bool, true, false, cond, eqb, map, length, replicate, get_or, refl, ap, sym, ◌∙◌, arith}
 use Rattle.std.proofs.lemmas.Bool.{eq-eqb, ne_eqb, eqb-true}
-use Rattle.std.proofs.lemmas.List.{length-map, get_or-map, get_or-replicate, length-replicate, same_lists}
+use Rattle.std.proofs.lemmas.List.{length-map, get_or-map, same_lists}
 use Rattle.std.proofs.lemmas.List.FromFn.{length-map-range_with_len, get_or-map-range_with_len}
 use Rattle.small_field.specs.Field.{Ops, IsField}
 use Rattle.small_field.specs.Values.{AreElements}
 use Rattle.small_field.proofs.CallerLemmas.{zero_below, mul_zero}
 use Rattle.linear_laws.specs.Vectors.{dot, column, combination, plus_scaled, IsVector, IsMatrix}
-use Rattle.linear_laws.proofs.CallerLemmas.{combination-vector, entry_combination, list_below, zeros-elements}
+use Rattle.linear_laws.proofs.CallerLemmas.{combination-vector, entry_combination, list_below}
 use Rattle.number_lists.specs.Words.{upto}
 use Rattle.number_lists.specs.Members.{In, here, there}
-use Rattle.number_lists.proofs.CallerLemmas.{In-cases, at-In, In-upto, upto-In, AreDistinct, distinct-at, distinct-range, length-upto, get_or-upto}
-use Rattle.flag_laws.proofs.Sums.{summed, sum-below, sum-same, sum-times, sum-swap, sum-one, dot-maps, mul_out, sign, sign-twice}
+use Rattle.number_lists.proofs.CallerLemmas.{In-cases, at-In, In-upto, upto-In, AreDistinct, distinct-at, distinct-range}
+use Rattle.flag_laws.proofs.Sums.{summed, sum-same, sum-times, sum-swap, sum-one, dot-maps, mul_out, sign, sign-twice}
 
 -- the place of a number in a list, counted from 0
 abbrev pub index : (c : ℕ) → List ℕ → ℕ

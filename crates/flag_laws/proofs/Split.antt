@@ -1,23 +1,21 @@
 -- The chains of a space with a field of pairs as a complex with a split, with a degree without cells before it.
-use Rattle.std.proofs.Common.{◌≡◌, inl, inr, ℕ, zero, suc, ◌+◌, ◌-◌, ◌<◌, ◌≤◌, List, [], ◌∷◌, Bool, true, false, length, map, replicate, get_or, refl, ap, sym, ◌∙◌, subst, arith}
+use Rattle.std.proofs.Common.{◌≡◌, inl, inr, ℕ, zero, suc, ◌+◌, ◌≤◌, List, [], Bool, true, false, length, map, replicate, refl, ap, sym, ◌∙◌, subst, arith}
 use Rattle.std.specs.List.{AllByRecursion}
-use Rattle.std.proofs.lemmas.List.{length-map, get_or_past, nil_from_length}
 use Rattle.std.proofs.lemmas.List.FromFn.{length-map-range_with_len, get_or-map-range_with_len}
 use Rattle.small_field.specs.Field.{Ops, IsField}
 use Rattle.linear_laws.specs.Vectors.{combination}
 use Rattle.number_lists.specs.Words.{upto}
 use Rattle.number_lists.specs.Members.{In}
-use Rattle.face_poset.specs.Poset.{Layers, count}
+use Rattle.face_poset.specs.Poset.{count}
 use Rattle.face_poset.specs.declared.cells.Pair.{Pair}
 use Rattle.order_complex.specs.Chains.{chains_of}
 use Rattle.order_complex.specs.Complex.{complex_of, negative_in}
 use Rattle.order_complex.specs.Ranks.{rows_of}
 use Rattle.order_complex.proofs.CallerLemmas.{chains_of-four, count-chains, composition_is_zero}
 use Rattle.vector_field.specs.Pairs.{pair, Field, is_used, IsFieldOf}
-use Rattle.vector_field.proofs.CallerLemmas.{Uses, used-some}
+use Rattle.vector_field.proofs.CallerLemmas.{used-some}
 use Rattle.split_laws.specs.declared.kind.Kind.{Kind}
 use Rattle.split_laws.specs.declared.kind.Kind.TheVariants.{Critical, Lower, Upper}
-use Rattle.split_laws.specs.Pairs.{IsMatching}
 use Rattle.split_laws.specs.Split.{IsSplit}
 use Rattle.split_laws.specs.Complex.{before, IsSplitComplex}
 use Rattle.split_laws.proofs.CallerLemmas.{split_of_field}
