@@ -1,3 +1,4 @@
+mod Examples
 mod SignedRows
 mod Split
 mod Coordinates

@@ -1,12 +1,11 @@
 -- What is left of the order complex of a regular space when the chains inside each cell are paired. space is the lists
 -- of a regular space, negative dim cell facet tells whether the sign of a facet of a cell is -1; field is that of the
 -- pairs inside all cells, F the arithmetic of a field.
---   by_flags space                        the cells in the order of the numbers of their flags, by dimension
---   flag_rows F space negative degree     the rows of the cells with their signs, numbered by their flags
---   FlagsReduceToCells F                  these are the reduced rows of the chains
+--   flag_rows F space negative degree          the rows of the cells with their signs, numbered by their flags
+--   FlagsReduceToCells F                       these are the reduced rows of the chains
 --   cell_rows_into F space negative degree     the rows of the cells with their signs into a degree; none into degree 0
---   CellsHaveTheBettiNumbers F            a basis of the cocycles of the cells modulo coboundaries has as many members as one of
---                                         the whole order complex
+--   CellsHaveTheBettiNumbers F                 a basis of the cocycles of the cells modulo coboundaries has as many members
+--                                              as one of the whole order complex
 use Rattle.std.specs.Prelude.{ℕ, zero, suc, ◌+◌, ◌≤◌, List, [], Bool, length}
 use Rattle.face_poset.specs.Poset.{Layers, IsSpace, count}
 use Rattle.small_field.specs.Field.{Ops}
@@ -37,7 +36,8 @@ FlagsReduceToCells F =
     → degree ≤ 3
     → AreKinds field.pairs degree (length (chains_of space degree)) kinds
     → AreKinds field.pairs (suc degree) (length (chains_of space (suc degree))) next
-    → IsReducedBy F (length (chains_of space degree)) (length (chains_of space (suc degree))) (rows_of F space degree) kinds next (flag_rows F space negative degree)
+    → IsReducedBy F (length (chains_of space degree)) (length (chains_of space (suc degree)))
+    (rows_of F space degree) kinds next (flag_rows F space negative degree)
 
 abbrev pub cell_rows_into : Ops → Layers → (negative : ℕ → ℕ → ℕ → Bool) → (degree : ℕ) → List (List ℕ)
 cell_rows_into F space negative zero = []
@@ -50,5 +50,6 @@ CellsHaveTheBettiNumbers F =
     → IsRegular space
     → IsOriented space negative
     → degree ≤ 3
-    → IsCohomologyBasis F (count space (degree + 1)) (cell_rows_into F space negative degree) (signed_rows F space negative degree) zs
+    → IsCohomologyBasis F (count space (degree + 1))
+    (cell_rows_into F space negative degree) (signed_rows F space negative degree) zs
     → IsBetti F space degree (length zs)
