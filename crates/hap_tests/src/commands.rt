@@ -46,6 +46,8 @@ fn inputs_have_a_kind_and_a_name(rt: HostRuntime) -> Result<(), Fail> {
         (&["cells", "--in="], Kind::Boundary, Some("")),
         (&["check", "--kind", "arcs"], Kind::Arcs, None),
         (&["check", "--kind=cubical"], Kind::Cubical, None),
+        (&["cells", "--kind", "simplices"], Kind::Simplices, None),
+        (&["cells", "--kind=poset"], Kind::Poset, None),
         (
             &["group", "--kind", "arcs", "--in=x"],
             Kind::Arcs,

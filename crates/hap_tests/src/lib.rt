@@ -18,6 +18,8 @@ mod cover;
 #[cfg(test)]
 mod covers;
 #[cfg(test)]
+mod facets;
+#[cfg(test)]
 mod group;
 #[cfg(test)]
 mod make;

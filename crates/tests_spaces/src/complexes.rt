@@ -1,7 +1,7 @@
-// Simplicial complexes by lists of labels.
+// Simplicial complexes by lists of labels, and order complexes of partial orders.
 use crate::worked::{counts_of, facets_of};
 use face_poset::Space;
-use facet_reader::{FacetFault, simplices};
+use facet_reader::{FacetFault, poset, simplices};
 use gap_text::{Nest, TextFault, parse};
 use std::alloc::Global;
 use std::test::Fail;
@@ -20,6 +20,52 @@ fn complex(alloc: Global, text: &[u8]) -> Result<Space, FacetFault> {
         Ok(nest) => simplices(alloc, &nest),
         Err(_) => Err(FacetFault::Memory),
     }
+}
+
+/// The order complex of a text.
+fn order_complex(alloc: Global, text: &[u8]) -> Result<Space, FacetFault> {
+    match value(alloc, text) {
+        Ok(nest) => poset(alloc, &nest),
+        Err(_) => Err(FacetFault::Memory),
+    }
+}
+
+#[test]
+fn order_complexes_have_their_chains(rt: HostRuntime) -> Result<(), Fail> {
+    for (text, counts) in [
+        (
+            b"[5,[[1,2],[2,3],[3,4],[4,5]]]".as_slice(),
+            [5u32, 10, 10, 5],
+        ),
+        (b"[4,[[1,3],[1,4],[2,3],[2,4]]]", [4, 4, 0, 0]),
+        (b"[3,[]]", [3, 0, 0, 0]),
+        (b"[2,[[1,2],[1,2]]]", [2, 1, 0, 0]),
+        (
+            b"[9,[[1,5],[2,5],[2,6],[3,6],[3,7],[4,7],[1,8],[4,8],[5,9],[6,9],[7,9],[8,9]]]",
+            [9, 16, 8, 0],
+        ),
+    ] {
+        assert_eq!(rt; counts_of(&order_complex(rt.alloc(), text)?), counts);
+    }
+    Ok(())
+}
+
+#[test]
+fn faults_of_orders_have_their_places(rt: HostRuntime) -> Result<(), Fail> {
+    for (text, fault) in [
+        (b"[3,[[2,1]]]".as_slice(), FacetFault::BadLabel(7)),
+        (b"[3,[[2,2]]]", FacetFault::Repeated(7)),
+        (b"[3,[[2,4]]]", FacetFault::BadLabel(7)),
+        (b"[3,[[0,1]]]", FacetFault::BadLabel(5)),
+        (b"[0,[]]", FacetFault::Empty),
+        (b"[3]", FacetFault::Shape(0)),
+        (b"[[3],[]]", FacetFault::Shape(1)),
+        (b"[3,[[1,2,3]]]", FacetFault::Shape(4)),
+        (b"[4294967295,[]]", FacetFault::TooManyCells),
+    ] {
+        assert_eq!(rt; order_complex(rt.alloc(), text).err(), Some(fault));
+    }
+    Ok(())
 }
 
 #[test]
