@@ -84,6 +84,14 @@ fn modulo_three(alloc: Global, text: &str) -> Result<Found, Fail> {
     Ok(found)
 }
 
+/// The zero cochain of degree 1 by classes, modulo 3.
+fn zero_modulo_three(alloc: Global, text: &str) -> Result<Written, Fail> {
+    let space = read(alloc, text)?;
+    let chains = Chains::new(alloc, &space, 200)?;
+    let written = zero_by_classes::<Gfp<3>, Brand>(alloc, &chains, Blank::new(1))?;
+    Ok(written)
+}
+
 #[test]
 fn circle_has_a_class_round(rt: HostRuntime) -> Result<(), Fail> {
     let found = modulo_three(rt.alloc(), CIRCLE)?;
@@ -168,9 +176,7 @@ fn plane_has_a_rank_line_more_modulo_three(rt: HostRuntime) -> Result<(), Fail> 
 
 #[test]
 fn zero_has_no_coefficient(rt: HostRuntime) -> Result<(), Fail> {
-    let space = read(rt.alloc(), CIRCLE)?;
-    let chains = Chains::new(rt.alloc(), &space, 200)?;
-    let written = zero_by_classes::<Gfp<3>, Brand>(rt.alloc(), &chains, Blank::new(1))?;
+    let written = zero_modulo_three(rt.alloc(), CIRCLE)?;
     assert!(rt; written.coefficients.len() == 0);
     assert!(rt; written.bound.len() == 0);
     Ok(())
