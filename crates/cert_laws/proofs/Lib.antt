@@ -1,0 +1,4 @@
+pub mod CallerLemmas
+mod Passing
+mod FieldLines
+mod Given
