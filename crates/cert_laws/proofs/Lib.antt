@@ -2,3 +2,4 @@ pub mod CallerLemmas
 mod Passing
 mod FieldLines
 mod Given
+mod Examples

@@ -1,7 +1,6 @@
 -- What accepted certificates show: the contracts of the laws in src/lib.rt.
 --   LinesFitWhereValid        pairs hold one after another, as lines of a certificate, exactly where they are a valid field
 --   CheckedFieldsAreGood      the pairs of an accepted cover part are a good field of its space
---   MigrationIsAccepted       an accepted certificate in version 2 is accepted
 --   MigrationKeepsVersionTwo  a certificate of version 2 stays as it is
 use Rattle.std.specs.Prelude.{◌≡◌, ◌↔◌, List, [], true, Some}
 use Rattle.face_poset.specs.declared.cells.Pair.{Pair}
@@ -18,9 +17,6 @@ LinesFitWhereValid = (space : Layers) (pairs : List Pair) → (pairs_hold space 
 
 abbrev pub CheckedFieldsAreGood : Type 0
 CheckedFieldsAreGood = (c : Cert) (part : CertCover) → IsAccepted c → c.cover ≡ Some part → IsGood c.space (pairs_of part)
-
-abbrev pub MigrationIsAccepted : Type 0
-MigrationIsAccepted = (c : Cert) → IsAccepted c → IsAccepted (migrated c)
 
 abbrev pub MigrationKeepsVersionTwo : Type 0
 MigrationKeepsVersionTwo = (c : Cert) → c.version ≡ 2 → migrated c ≡ c
