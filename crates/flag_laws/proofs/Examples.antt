@@ -1,5 +1,5 @@
 -- The definitions on small spaces.
-use Rattle.std.proofs.Common.{◌≡◌, ℕ, List, [], ◌∷◌, refl}
+use Rattle.std.proofs.Common.{◌≡◌, [], ◌∷◌, refl}
 use Rattle.face_poset.specs.Poset.{Layers}
 use Rattle.small_field.specs.Modulus.{field_of}
 use Rattle.cell_signs.specs.Along.{low_negative}
