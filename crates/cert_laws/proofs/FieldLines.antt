@@ -1,20 +1,19 @@
 -- The lines of pairs: they hold one after another exactly where they are a valid field; and the fields that pass are good.
-use Rattle.std.proofs.Common.{◌≡◌, inl, inr, ℕ, ◌+◌, ◌≤◌, List, [], ◌∷◌, ◌++◌, Bool, true, false, ◌&&◌, ◌||◌, not, eqb, map, length, Option, Some, None, refl, ap, sym, ◌∙◌, subst}
+use Rattle.std.proofs.Common.{◌≡◌, inl, inr, ℕ, ◌+◌, List, [], ◌∷◌, ◌++◌, true, ◌&&◌, ◌||◌, not, eqb, map, length, refl, sym, ◌∙◌, subst}
 use Rattle.std.specs.Prelude.{◌↔◌}
-use Rattle.std.specs.List.{list_all, list_any}
-use Rattle.std.proofs.lemmas.Bool.{eqb-true, and_parts, and_from, or_cases, or_left, or_right, not-true, not_from_false, cases_Bool, both_ways}
+use Rattle.std.specs.List.{list_any}
+use Rattle.std.proofs.lemmas.Bool.{eqb-true, and_parts, and_from, or_cases, or_left, or_right, not-true, not_from_false, cases_Bool}
 use Rattle.std.proofs.lemmas.List.{append_assoc}
-use Rattle.number_lists.specs.Words.{upto}
 use Rattle.number_lists.specs.Members.{In, here, there}
-use Rattle.number_lists.proofs.CallerLemmas.{In-cases, any-In, any-some, any-none, none-In, all-In, In-all, push-In, append-In, In-left, In-right, In-last, In-upto}
+use Rattle.number_lists.proofs.CallerLemmas.{In-cases, any-In, any-some, none-In, all-In, In-all, push-In, append-In, In-left, In-last, In-upto}
 use Rattle.face_poset.specs.declared.cells.Pair.{Pair}
 use Rattle.regular_check.specs.Components.{component_count}
 use Rattle.vector_field.specs.Pairs.{has_lower, is_used, is_incident, others, IsValid}
-use Rattle.vector_field.specs.Maximal.{MaximalIsExact, IsGood, vertices_in, is_maximal}
-use Rattle.vector_field.proofs.CallerLemmas.{Lined, Apart, Goes, IsLined, lined-from, valid-from, Uses, unused-In, unused-from, has_lower-true, has_lower-from, not-itself}
+use Rattle.vector_field.specs.Maximal.{MaximalIsExact, IsGood, vertices_in}
+use Rattle.vector_field.proofs.CallerLemmas.{Apart, IsLined, lined-from, valid-from, unused-In, unused-from, has_lower-true, has_lower-from, not-itself}
 use Rattle.certificates.specs.declared.lines.PairLine.{PairLine}
-use Rattle.certificates.specs.Cert.{CertCover, Cert}
-use Rattle.cert_laws.specs.Tests.{Test, line_fits, pair_holds, pairs_hold, pairs_of, pair_tests, one_vertex, field_tests, columns_in, section_tests, cover_part_tests}
+use Rattle.certificates.specs.Cert.{CertCover}
+use Rattle.cert_laws.specs.Tests.{line_fits, pair_holds, pairs_hold, pairs_of, pair_tests, field_tests}
 use Rattle.cert_laws.proofs.Passing.{AllHold, hold-left, hold-right}
 
 module _ (space : List (List (List ℕ))) (all : List Pair) where

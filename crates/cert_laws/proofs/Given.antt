@@ -1,9 +1,9 @@
 -- What the tests of an accepted certificate say, part by part.
-use Rattle.std.proofs.Common.{◌≡◌, ℕ, List, [], ◌∷◌, ◌++◌, true, map, Option, Some, None, refl, ap, sym, subst}
+use Rattle.std.proofs.Common.{◌≡◌, ◌++◌, true, Option, Some, subst}
 use Rattle.std.specs.List.{flat_map}
 use Rattle.small_field.specs.Modulus.{field_of}
 use Rattle.certificates.specs.Cert.{CertCover, Cert}
-use Rattle.cert_laws.specs.Tests.{Test, space_holds, homology_tests, field_tests, columns_in, section_tests, pairs_of, cover_part_tests}
+use Rattle.cert_laws.specs.Tests.{space_holds, homology_tests, field_tests, columns_in, section_tests, pairs_of, cover_part_tests}
 use Rattle.cert_laws.specs.Accepted.{tests, IsAccepted}
 use Rattle.cert_laws.proofs.Passing.{AllHold, hold-left, hold-right, hold-from}
 

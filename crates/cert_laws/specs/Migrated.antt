@@ -4,7 +4,7 @@
 --   later_section s     the one section of version 1: its line `covers` stands three lines behind the place of the line `sheets`
 --   migrated_part p     the cover part
 --   migrated c          the certificate: in version 2 it is itself
-use Rattle.std.specs.Prelude.{ℕ, ◌+◌, ◌==◌, map, if◌then◌else◌, option_map}
+use Rattle.std.specs.Prelude.{◌+◌, ◌==◌, map, if◌then◌else◌, option_map}
 use Rattle.certificates.specs.Cert.{CoverTable, CoverSection, CertCover, Cert}
 
 abbrev pub later_table : CoverTable → CoverTable
