@@ -2,11 +2,10 @@
 ghost use Rattle.std.specs.Prelude.{◌≡◌, ◌<◌};
 
 use crate::worked::{CIRCLE, PLANE, read};
-use chain_laws::values_fit_entries;
-use cohomology::{Bases, Echelons, Written, reductions_have_rows};
+use cohomology::{Bases, Echelons, reductions_have_rows};
 use critical_complex::Reduced;
 use order_complex::Chains;
-use small_field::{Cochain, Field, Gfp};
+use small_field::{Field, Gfp};
 use std::alloc::{AllocError, Global};
 use std::marker::Brand;
 use std::sync::ledger::{Blank, Ledger};
@@ -46,28 +45,6 @@ fn classes_with<F: Field, L: Ledger>(
     Ok(Found { betti, bases })
 }
 
-/// The zero cochain of degree 1, written by the classes of the degree.
-fn zero_by_classes<F: Field, L: Ledger>(
-    alloc: Global,
-    chains: &Chains<'_>,
-    blank: Blank,
-) -> Result<Written, AllocError>
-    requires name { blank.name ≡ L.name }
-    requires parts { blank.parts ≡ L.parts }
-    requires some { 0 < L.parts }
-{
-    reductions_have_rows::<F>();
-    values_fit_entries::<F>();
-    let mut steps = Steps::<L>::new(blank);
-    let field = free_field(alloc, chains)?;
-    let reduced = Reduced::<F>::new(alloc, chains, &field)?;
-    let echelons = Echelons::new(alloc, &reduced, &mut steps)?;
-    let bases = Bases::new(alloc, chains, &reduced, &echelons)?;
-    let zero = Cochain::zero(alloc, chains.len(1))?;
-    let _elements = zero.len();
-    bases.class_of(alloc, chains, &reduced, &echelons, 1, &zero)
-}
-
 /// Both modulo 2, of a space that is given as a text.
 fn modulo_two(alloc: Global, text: &str) -> Result<Found, Fail> {
     let space = read(alloc, text)?;
@@ -82,14 +59,6 @@ fn modulo_three(alloc: Global, text: &str) -> Result<Found, Fail> {
     let chains = Chains::new(alloc, &space, 200)?;
     let found = classes_with::<Gfp<3>, Brand>(alloc, &chains, Blank::new(1))?;
     Ok(found)
-}
-
-/// The zero cochain of degree 1 by classes, modulo 3.
-fn zero_modulo_three(alloc: Global, text: &str) -> Result<Written, Fail> {
-    let space = read(alloc, text)?;
-    let chains = Chains::new(alloc, &space, 200)?;
-    let written = zero_by_classes::<Gfp<3>, Brand>(alloc, &chains, Blank::new(1))?;
-    Ok(written)
 }
 
 #[test]
@@ -171,13 +140,5 @@ fn plane_has_a_rank_line_more_modulo_three(rt: HostRuntime) -> Result<(), Fail> 
     let found = modulo_three(rt.alloc(), PLANE)?;
     assert!(rt; found.bases.ranks(0).len() == 12);
     assert!(rt; found.bases.ranks(1).len() == 24);
-    Ok(())
-}
-
-#[test]
-fn zero_has_no_coefficient(rt: HostRuntime) -> Result<(), Fail> {
-    let written = zero_modulo_three(rt.alloc(), CIRCLE)?;
-    assert!(rt; written.coefficients.len() == 0);
-    assert!(rt; written.bound.len() == 0);
     Ok(())
 }
